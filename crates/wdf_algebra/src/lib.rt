@@ -1,0 +1,8 @@
+//! Whole numbers for wave digital filters: the quotient towards zero by a power of two, and in
+//! `specs/` and `proofs/` truncation, squares and polynomial identities, on which the crates above
+//! rest their laws.
+#![tactic(auto)]
+
+mod words;
+
+pub use words::quotient;

@@ -1,0 +1,10 @@
+pub mod Conductance
+pub mod Elements
+pub mod Junction
+pub mod Network
+pub mod NetworkCode
+pub mod OutputRule
+pub mod Run
+pub mod Step
+pub mod Trees
+pub mod WorkedFrames

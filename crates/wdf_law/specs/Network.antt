@@ -1,0 +1,98 @@
+-- A quantised network: two trees of adaptors joined at the root, with the width k of its multipliers,
+-- the root's multiplier m, and the element whose down wave is the output.
+use Rattle.std.specs.Prelude.{◌≡◌, ℕ, ◌^◌, ◌-◌, ◌≤◌, ◌<◌, Bool, true, false, ◌&&◌, ◌||◌, ◌==◌, nat_le, List, [], ◌∷◌, ◌++◌, length, map, filter, count_by, IsTrue, All}
+use Rattle.std.specs.List.{range_with_len, list_any}
+use Rattle.wdf_law.specs.declared.kind.Kind.{Kind}
+use Rattle.wdf_law.specs.declared.kind.Kind.TheVariants.{Res, Cap, Ind, Src}
+use Rattle.wdf_law.specs.declared.outlet.Outlet.{Outlet}
+use Rattle.wdf_law.specs.declared.outlet.Outlet.TheVariants.{Load, Source}
+use Rattle.wdf_law.specs.Trees.{Plain, leaf, series, parallel, Element, elements_of, first_of, depth_of}
+
+pub record Network : Type 0 where
+  pub k : ℕ
+  pub m : ℕ
+  pub left : Plain
+  pub right : Plain
+  pub outlet : Outlet
+
+-- q = 2^k, the units of 1/q in a whole
+abbrev pub unit_of : Network → ℕ
+unit_of n = 2 ^ n.k
+
+-- the elements, left tree before right tree
+abbrev pub elements : Network → List Element
+elements n = elements_of n.left ++ elements_of n.right
+
+-- their numbers
+abbrev pub numbers : Network → List ℕ
+numbers n = map (λ (x : Element). x.number) (elements n)
+
+-- an adaptor: the multiplier of a junction and the number of its first leaf
+pub record Adaptor : Type 0 where
+  pub multiplier : ℕ
+  pub first : ℕ
+
+-- the adaptors of a tree, each before those of its parts
+abbrev pub adaptors_of : Plain → List Adaptor
+adaptors_of (leaf elem _ _) = []
+adaptors_of (series m l r) = record { multiplier = m; first = first_of l } ∷ adaptors_of l ++ adaptors_of r
+adaptors_of (parallel m l r) = record { multiplier = m; first = first_of l } ∷ adaptors_of l ++ adaptors_of r
+
+-- the root, then the adaptors of the left tree and of the right tree
+abbrev pub adaptors : Network → List Adaptor
+adaptors n = record { multiplier = n.m; first = first_of n.left } ∷ adaptors_of n.left ++ adaptors_of n.right
+
+-- the multipliers in that order
+abbrev pub multipliers : Network → List ℕ
+multipliers n = map (λ (a : Adaptor). a.multiplier) (adaptors n)
+
+abbrev pub is_source : Kind → Bool
+is_source Src = true
+is_source Res = false
+is_source Cap = false
+is_source Ind = false
+
+abbrev pub is_resistor : Kind → Bool
+is_resistor Res = true
+is_resistor Src = false
+is_resistor Cap = false
+is_resistor Ind = false
+
+-- capacitors and inductors
+abbrev pub is_reactance : Kind → Bool
+is_reactance Cap = true
+is_reactance Ind = true
+is_reactance Res = false
+is_reactance Src = false
+
+-- a resistor with this number is among the elements
+abbrev pub has_resistor : List Element → ℕ → Bool
+has_resistor xs i = list_any (λ (x : Element). (x.number == i) && is_resistor x.kind) xs
+
+-- a load is the number of a resistor
+abbrev pub has_outlet : List Element → Outlet → Bool
+has_outlet xs (Load i) = has_resistor xs i
+has_outlet xs Source = true
+
+-- how often a number stands in a list
+abbrev pub times_in : List ℕ → ℕ → ℕ
+times_in xs i = count_by (λ x. x == i) xs
+
+-- what the type of a network keeps
+pub record IsNetwork (n : Network) : Type 0 where
+  pub width : (1 ≤ n.k) × (n.k ≤ 20)
+  -- every multiplier is in 1..=q-1
+  pub multipliers : All (λ (m : ℕ). (1 ≤ m) × (m < unit_of n)) (multipliers n)
+  pub fewest : 2 ≤ length (elements n)
+  pub most : length (elements n) ≤ 128
+  -- the elements are the numbers below their count, each once
+  pub below : All (λ (i : ℕ). i < length (elements n)) (numbers n)
+  pub once : (i : ℕ) → i < length (elements n) → times_in (numbers n) i ≡ 1
+  pub one_source : count_by (λ (x : Element). is_source x.kind) (elements n) ≡ 1
+  pub outlet : IsTrue (has_outlet (elements n) n.outlet)
+  pub left_depth : depth_of n.left ≤ 128
+  pub right_depth : depth_of n.right ≤ 128
+
+-- the numbers of the reactances, in netlist order
+abbrev pub reactances : Network → List ℕ
+reactances n = filter (λ (i : ℕ). list_any (λ (x : Element). (x.number == i) && is_reactance x.kind) (elements n)) (range_with_len 0 (length (elements n)))

@@ -1,0 +1,25 @@
+-- The reference run: step after step, each from the state that the one before left.
+use Rattle.std.specs.Prelude.{◌≡◌, ℕ, ℤ, pos, ◌==◌, if◌then◌else◌, List, [], ◌∷◌, map}
+use Rattle.wdf_law.specs.Network.{Network, reactances}
+use Rattle.wdf_law.specs.Step.{Frame, IsStep, after}
+
+-- what a list of values by the list of its keys has at a key, 0 where it has none
+abbrev pub entry : List ℕ → List ℤ → ℕ → ℤ
+entry [] zs i = pos 0
+entry (k ∷ ks) [] i = pos 0
+entry (k ∷ ks) (z ∷ zs) i = if k == i then z else entry ks zs i
+
+-- the states by the element's number, from their list in netlist order
+abbrev pub states : Network → List ℤ → ℕ → ℤ
+states n zs = entry (reactances n) zs
+
+-- at rest every state is 0
+abbrev pub rest : Network → List ℤ
+rest n = map (λ (i : ℕ). pos 0) (reactances n)
+
+-- a run from the states zs: one frame for each input, which gives each source its value
+abbrev pub IsRun : Network → List ℤ → List (ℕ → ℤ) → List Frame → Type 0
+IsRun n zs [] [] = Unit {0}
+IsRun n zs [] (s ∷ ss) = ⊥
+IsRun n zs (e ∷ es) [] = ⊥
+IsRun n zs (e ∷ es) (s ∷ ss) = IsStep n (states n zs) e s × IsRun n (after n s) es ss

@@ -1,0 +1,82 @@
+-- Frames worked by hand, k = 14 and so q = 16384, against which the definitions of a step are checked.
+use Rattle.std.specs.Prelude.{◌≡◌, ℕ, ℤ, pos, neg_ℤ, Bool, true, false, List, [], ◌∷◌}
+use Rattle.wdf_law.specs.declared.kind.Kind.TheVariants.{Res, Cap, Ind, Src}
+use Rattle.wdf_law.specs.declared.outlet.Outlet.TheVariants.{Load}
+use Rattle.wdf_law.specs.Trees.{leaf, series, parallel}
+use Rattle.wdf_law.specs.Network.{Network}
+use Rattle.wdf_law.specs.Step.{ends, forks, Frame, IsStep, after}
+use Rattle.wdf_law.specs.Run.{states}
+use Rattle.wdf_law.specs.OutputRule.{drive, load_wave}
+
+-- these numbers are the step from the state with a silent or a driven source, and leave this state and wave
+pub record IsWorked (n : Network) (before : List ℤ) (e : ℤ) (s : Frame) (behind : List ℤ) (w : ℤ) : Type 0 where
+  pub step : IsStep n (states n before) (drive 0 e) s
+  pub after : after n s ≡ behind
+  pub wave : load_wave n s ≡ w
+
+-- a source and, in parallel, a capacitor and the load
+abbrev pub capacitor_circuit : Network
+capacitor_circuit = record {
+  k = 14;
+  m = 5461;
+  left = leaf 0 Src false;
+  right = parallel 8192 (leaf 1 Cap false) (leaf 2 Res false);
+  outlet = Load 2;
+}
+
+abbrev pub capacitor_frame : Frame
+capacitor_frame = record {
+  b1 = neg_ℤ (pos 39759720);
+  b2 = neg_ℤ (pos 9940840);
+  left = ends (pos 0) (neg_ℤ (pos 2426));
+  right = forks (neg_ℤ (pos 1820)) (neg_ℤ (pos 606)) (pos 19898368) (neg_ℤ (pos 39755776)) (neg_ℤ (pos 29827072)) (ends (neg_ℤ (pos 3641)) (pos 1214)) (ends (pos 0) (neg_ℤ (pos 2426)));
+}
+
+-- the same with an inductor in the capacitor's place
+abbrev pub inductor_circuit : Network
+inductor_circuit = record {
+  k = 14;
+  m = 5461;
+  left = leaf 0 Src false;
+  right = parallel 8192 (leaf 1 Ind false) (leaf 2 Res false);
+  outlet = Load 2;
+}
+
+-- a source and, in series, a resistor and the load
+abbrev pub series_circuit : Network
+series_circuit = record {
+  k = 14;
+  m = 10923;
+  left = leaf 0 Src false;
+  right = series 8192 (leaf 1 Res false) (leaf 2 Res false);
+  outlet = Load 2;
+}
+
+abbrev pub series_frame : Frame
+series_frame = record {
+  b1 = pos 16386000;
+  b2 = pos 65538000;
+  left = ends (pos 3000) (pos 1000);
+  right = forks (pos 0) (pos 4000) (pos 32768000) (pos 32768000) (pos 0) (ends (pos 0) (pos 2000)) (ends (pos 0) (pos 2000));
+}
+
+-- a source written against its place, and the load
+abbrev pub flipped_source : Network
+flipped_source = record { k = 14; m = 8192; left = leaf 0 Src true; right = leaf 1 Res false; outlet = Load 1 }
+
+abbrev pub flipped_frame : Frame
+flipped_frame = record {
+  b1 = pos 0;
+  b2 = neg_ℤ (pos 262144);
+  left = ends (neg_ℤ (pos 16)) (pos 0);
+  right = ends (pos 0) (neg_ℤ (pos 16));
+}
+
+-- all four
+pub record AreWorked : Type 0 where
+  -- the capacitor's state is the down wave of the frame before
+  pub capacitor : IsWorked capacitor_circuit (neg_ℤ (pos 3641) ∷ []) (pos 0) capacitor_frame (pos 1214 ∷ []) (neg_ℤ (pos 2426))
+  -- with this state an inductor reflects what the capacitor does, so every number is the same
+  pub inductor : IsWorked inductor_circuit (pos 3641 ∷ []) (pos 0) capacitor_frame (pos 1214 ∷ []) (neg_ℤ (pos 2426))
+  pub series : IsWorked series_circuit [] (pos 3000) series_frame [] (pos 2000)
+  pub flipped : IsWorked flipped_source [] (pos 16) flipped_frame [] (neg_ℤ (pos 16))

@@ -1,0 +1,20 @@
+//! Networks of wave digital adaptors, and what they mean.
+//!
+//! A [`Net`] is a quantised network: two trees of series and parallel adaptors whose leaves are the
+//! elements, joined at the root. `specs/` says what its waves are: Kirchhoff's laws at every
+//! junction before each truncation (`Junction`), Ohm's law and the trapezoidal rule at every
+//! element (`Element`), and from these the reference step and the reference run (`Step`, `Run`).
+#![tactic(auto)]
+
+mod kind;
+pub mod laws;
+// mod net;
+mod net_error;
+mod outlet;
+mod tree;
+
+pub use kind::Kind;
+// pub use net::Net;
+pub use net_error::NetError;
+pub use outlet::Outlet;
+pub use tree::Tree;
