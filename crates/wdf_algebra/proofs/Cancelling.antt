@@ -1,5 +1,5 @@
 -- A positive natural factor is taken off both sides of an equation.
-use Rattle.std.proofs.Common.{◌≡◌, ℕ, ◌+◌, ◌*◌, ◌<◌, ◌≤◌, ap, arith}
+use Rattle.std.proofs.Common.{◌≡◌, ℕ, ◌*◌, ◌<◌, ◌≤◌, ap, arith}
 use Rattle.std.proofs.Math.Nat.{le_of_mul-le-mul_left}
 use lib.IntN.{ℤ, pos, ◌*ℤ◌}
 use borrow.Author.Differences.{up, down, same_in, product_is}

@@ -1,8 +1,8 @@
 -- Polynomials with whole coefficients as data, and a normal form that computes: two expressions
 -- whose difference has a vanishing normal form are equal for all values of their variables.
-use Rattle.std.proofs.Common.{◌≡◌, ℕ, ◌+◌, ◌*◌, zero, suc, Bool, true, false, ◌&&◌, ◌==◌, if◌then◌else◌, List, [], ◌∷◌, refl, sym, ap, ◌∙◌, arith}
-use lib.IntN.{ℤ, pos, negsuc, ◌+ℤ◌, ◌-ℤ◌, ◌*ℤ◌, neg_ℤ, *ℤ_comm, +ℤ_comm, +ℤ_assoc}
-use Rattle.wdf_algebra.proofs.RingLaws.{linear, mul-assoc, mul-add, add-mul, neg-mul, mul-neg, one-mul, zero-mul, mul-swap}
+use Rattle.std.proofs.Common.{◌≡◌, ℕ, ◌+◌, zero, suc, Bool, true, false, ◌&&◌, ◌==◌, if◌then◌else◌, List, [], ◌∷◌, refl, sym, ap, ◌∙◌, arith}
+use lib.IntN.{ℤ, pos, negsuc, ◌+ℤ◌, ◌-ℤ◌, ◌*ℤ◌, neg_ℤ, *ℤ_comm, +ℤ_assoc}
+use Rattle.wdf_algebra.proofs.RingLaws.{linear, mul-assoc, mul-add, add-mul, neg-mul, one-mul, zero-mul, mul-swap}
 
 -- an expression: a number, a variable by its place, and -a, a + b, a - b, a · b
 pub data Ex : Type 0 where
@@ -12,10 +12,10 @@ pub data Ex : Type 0 where
   ◌⊕◌ : Ex → Ex → Ex
   ◌⊖◌ : Ex → Ex → Ex
   ◌⊗◌ : Ex → Ex → Ex
+
 infixl 6 ◌⊕◌
 infixl 6 ◌⊖◌
 infixl 7 ◌⊗◌
-
 -- the value at a place of the environment, 0 behind its end
 abbrev pub nth : List ℤ → ℕ → ℤ
 nth [] i = pos 0

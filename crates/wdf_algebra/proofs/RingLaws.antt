@@ -1,6 +1,6 @@
 -- The laws of whole numbers as a commutative ring, which the library has only in part.
-use Rattle.std.proofs.Common.{◌≡◌, ℕ, ◌+◌, ◌*◌, refl, sym, ap, ◌∙◌, arith}
-use lib.IntN.{ℤ, pos, ◌+ℤ◌, ◌-ℤ◌, ◌*ℤ◌, neg_ℤ, *ℤ_comm}
+use Rattle.std.proofs.Common.{◌≡◌, ℕ, ◌*◌, sym, ap, ◌∙◌, arith}
+use lib.IntN.{ℤ, pos, ◌+ℤ◌, ◌*ℤ◌, neg_ℤ, *ℤ_comm}
 use borrow.Author.Differences.{up, down, same_in, same_out, sum_is_lem, neg_is, product_is}
 
 -- sums of whole numbers with products as atoms, for `omega`

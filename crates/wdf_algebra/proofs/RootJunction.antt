@@ -1,9 +1,9 @@
 -- The root junction, from its equations as premises: with V = q·u + B and J = g·(B - q·u) at each of its
 -- two ports, V1 = V2 and J1 + J2 = 0. Here m + n = q, q·g1 = m·(g1 + g2) and q·g2 = n·(g1 + g2).
-use Rattle.std.proofs.Common.{◌≡◌, ℕ, ◌+◌, ◌*◌, ◌<◌, List, [], ◌∷◌, refl, ap}
+use Rattle.std.proofs.Common.{◌≡◌, ℕ, ◌+◌, ◌*◌, ◌<◌, [], ◌∷◌, refl, ap}
 use lib.IntN.{ℤ, pos, ◌+ℤ◌, ◌-ℤ◌, ◌*ℤ◌}
 use Rattle.wdf_algebra.proofs.Cancelling.{cancel}
-use Rattle.wdf_algebra.proofs.Polynomials.{Ex, con, var, ◌⊕◌, ◌⊖◌, ◌⊗◌, Fact, ring, linear_combination}
+use Rattle.wdf_algebra.proofs.Polynomials.{con, var, ◌⊕◌, ◌⊖◌, ◌⊗◌, ring, linear_combination}
 
 -- the value that leaves the root towards the port whose wave is u, the other wave being w
 abbrev pub root_value : (q m n : ℕ) (u1 u2 u : ℤ) → ℤ
@@ -38,8 +38,8 @@ root_currents q m n g1 g2 u1 u2 first second =
     (G1 ⊗ ((V ⊖ Q ⊗ U1) ⊖ Q ⊗ U1) ⊕ G2 ⊗ ((V ⊖ Q ⊗ U2) ⊖ Q ⊗ U2))
     (con (pos 0))
     (record { by = minus_two ⊗ U1; left = Q ⊗ G1; right = M ⊗ (G1 ⊕ G2) }
-     ∷ record { by = minus_two ⊗ U2; left = Q ⊗ G2; right = N ⊗ (G1 ⊕ G2) }
-     ∷ [])
+    ∷ record { by = minus_two ⊗ U2; left = Q ⊗ G2; right = N ⊗ (G1 ⊕ G2) }
+    ∷ [])
     (ap pos first, (ap pos second, tt))
     refl
 
@@ -64,10 +64,10 @@ root_first q m n g1 g2 u1 u2 b1 b2 some first second voltages currents =
     ((G1 ⊕ G2) ⊗ B1)
     ((G1 ⊕ G2) ⊗ (two ⊗ (M ⊗ U1 ⊕ N ⊗ U2) ⊖ Q ⊗ U1))
     (record { by = con (pos 1); left = G1 ⊗ (B1 ⊖ Q ⊗ U1) ⊕ G2 ⊗ (B2 ⊖ Q ⊗ U2); right = con (pos 0) }
-     ∷ record { by = G2; left = Q ⊗ U1 ⊕ B1; right = Q ⊗ U2 ⊕ B2 }
-     ∷ record { by = two ⊗ U1; left = Q ⊗ G1; right = M ⊗ (G1 ⊕ G2) }
-     ∷ record { by = two ⊗ U2; left = Q ⊗ G2; right = N ⊗ (G1 ⊕ G2) }
-     ∷ [])
+    ∷ record { by = G2; left = Q ⊗ U1 ⊕ B1; right = Q ⊗ U2 ⊕ B2 }
+    ∷ record { by = two ⊗ U1; left = Q ⊗ G1; right = M ⊗ (G1 ⊕ G2) }
+    ∷ record { by = two ⊗ U2; left = Q ⊗ G2; right = N ⊗ (G1 ⊕ G2) }
+    ∷ [])
     (currents, (voltages, (ap pos first, (ap pos second, tt))))
     refl)
 
@@ -92,10 +92,10 @@ root_second q m n g1 g2 u1 u2 b1 b2 some first second voltages currents =
     ((G1 ⊕ G2) ⊗ B2)
     ((G1 ⊕ G2) ⊗ (two ⊗ (M ⊗ U1 ⊕ N ⊗ U2) ⊖ Q ⊗ U2))
     (record { by = con (pos 1); left = G1 ⊗ (B1 ⊖ Q ⊗ U1) ⊕ G2 ⊗ (B2 ⊖ Q ⊗ U2); right = con (pos 0) }
-     ∷ record { by = con (pos 0) ⊖ G1; left = Q ⊗ U1 ⊕ B1; right = Q ⊗ U2 ⊕ B2 }
-     ∷ record { by = two ⊗ U1; left = Q ⊗ G1; right = M ⊗ (G1 ⊕ G2) }
-     ∷ record { by = two ⊗ U2; left = Q ⊗ G2; right = N ⊗ (G1 ⊕ G2) }
-     ∷ [])
+    ∷ record { by = con (pos 0) ⊖ G1; left = Q ⊗ U1 ⊕ B1; right = Q ⊗ U2 ⊕ B2 }
+    ∷ record { by = two ⊗ U1; left = Q ⊗ G1; right = M ⊗ (G1 ⊕ G2) }
+    ∷ record { by = two ⊗ U2; left = Q ⊗ G2; right = N ⊗ (G1 ⊕ G2) }
+    ∷ [])
     (currents, (voltages, (ap pos first, (ap pos second, tt))))
     refl)
 
@@ -120,7 +120,7 @@ root_energy q g1 g2 u1 u2 b1 b2 voltages currents =
     (G1 ⊗ (B1 ⊗ B1) ⊕ G2 ⊗ (B2 ⊗ B2))
     (Q ⊗ Q ⊗ (G1 ⊗ (U1 ⊗ U1) ⊕ G2 ⊗ (U2 ⊗ U2)))
     (record { by = J1; left = V1; right = V2 }
-     ∷ record { by = V2; left = J1 ⊕ J2; right = con (pos 0) }
-     ∷ [])
+    ∷ record { by = V2; left = J1 ⊕ J2; right = con (pos 0) }
+    ∷ [])
     (voltages, (currents, tt))
     refl

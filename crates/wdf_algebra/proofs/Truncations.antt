@@ -1,10 +1,9 @@
 -- What truncation towards zero does to magnitudes and squares.
-use Rattle.std.proofs.Common.{◌≡◌, ℕ, ◌+◌, ◌*◌, ◌/◌, ◌<◌, ◌≤◌, suc, zero, refl, sym, ap, ◌∙◌, arith}
-use Rattle.std.proofs.Math.Nat.{mul-le-mul, mul-div-le, mul-div_cancel_left, mul-le-mul_left}
-use Rattle.std.specs.Prelude.{unsigned_abs, int_div}
-use lib.IntN.{ℤ, pos, negsuc, ◌+ℤ◌, ◌-ℤ◌, ◌*ℤ◌, neg_ℤ}
+use Rattle.std.proofs.Common.{◌≡◌, ℕ, ◌*◌, ◌/◌, ◌<◌, ◌≤◌, refl, ap, ◌∙◌, arith}
+use Rattle.std.proofs.Math.Nat.{mul-le-mul, mul-div-le, mul-div_cancel_left}
+use Rattle.std.specs.Prelude.{unsigned_abs}
+use lib.IntN.{ℤ, pos, negsuc, ◌*ℤ◌}
 use borrow.Author.Differences.{ints, up, down, same_in, product_is, quot_is}
-use Rattle.wdf_algebra.proofs.RingLaws.{linear}
 use Rattle.wdf_algebra.specs.Truncation.{trunc}
 use Rattle.wdf_algebra.specs.Squares.{square}
 

@@ -1,9 +1,11 @@
 pub mod Conductance
 pub mod Elements
 pub mod Junction
+pub mod Marks
 pub mod Network
 pub mod NetworkCode
 pub mod OutputRule
+pub mod Refusal
 pub mod Run
 pub mod Step
 pub mod Trees

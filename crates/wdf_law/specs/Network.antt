@@ -1,12 +1,13 @@
 -- A quantised network: two trees of adaptors joined at the root, with the width k of its multipliers,
 -- the root's multiplier m, and the element whose down wave is the output.
-use Rattle.std.specs.Prelude.{◌≡◌, ℕ, ◌^◌, ◌-◌, ◌≤◌, ◌<◌, Bool, true, false, ◌&&◌, ◌||◌, ◌==◌, nat_le, List, [], ◌∷◌, ◌++◌, length, map, filter, count_by, IsTrue, All}
+use Rattle.std.specs.Prelude.{◌≡◌, ℕ, ◌+◌, ◌^◌, if◌then◌else◌, ◌≤◌, ◌<◌, Bool, true, false, ◌&&◌, ◌==◌, List, [], ◌∷◌, ◌++◌, length, map, filter, IsTrue, All}
 use Rattle.std.specs.List.{range_with_len, list_any}
 use Rattle.wdf_law.specs.declared.kind.Kind.{Kind}
 use Rattle.wdf_law.specs.declared.kind.Kind.TheVariants.{Res, Cap, Ind, Src}
 use Rattle.wdf_law.specs.declared.outlet.Outlet.{Outlet}
 use Rattle.wdf_law.specs.declared.outlet.Outlet.TheVariants.{Load, Source}
-use Rattle.wdf_law.specs.Trees.{Plain, leaf, series, parallel, Element, elements_of, first_of, depth_of}
+use Rattle.wdf_law.specs.declared.tree.Tree.{Tree}
+use Rattle.wdf_law.specs.Trees.{Plain, plain, leaf, series, parallel, Element, elements_of, first_of, depth_of}
 
 pub record Network : Type 0 where
   pub k : ℕ
@@ -14,6 +15,10 @@ pub record Network : Type 0 where
   pub left : Plain
   pub right : Plain
   pub outlet : Outlet
+
+-- a network by the fields of its type
+abbrev pub network_of : ℕ → ℕ → Tree → Tree → Outlet → Network
+network_of k m left right outlet = record { k = k; m = m; left = plain left; right = plain right; outlet = outlet }
 
 -- q = 2^k, the units of 1/q in a whole
 abbrev pub unit_of : Network → ℕ
@@ -23,7 +28,10 @@ unit_of n = 2 ^ n.k
 abbrev pub elements : Network → List Element
 elements n = elements_of n.left ++ elements_of n.right
 
--- their numbers
+-- the numbers of a tree's elements, and of a network's
+abbrev pub numbers_of : Plain → List ℕ
+numbers_of t = map (λ (x : Element). x.number) (elements_of t)
+
 abbrev pub numbers : Network → List ℕ
 numbers n = map (λ (x : Element). x.number) (elements n)
 
@@ -38,9 +46,16 @@ adaptors_of (leaf elem _ _) = []
 adaptors_of (series m l r) = record { multiplier = m; first = first_of l } ∷ adaptors_of l ++ adaptors_of r
 adaptors_of (parallel m l r) = record { multiplier = m; first = first_of l } ∷ adaptors_of l ++ adaptors_of r
 
+-- their multipliers
+abbrev pub multipliers_of : Plain → List ℕ
+multipliers_of t = map (λ (a : Adaptor). a.multiplier) (adaptors_of t)
+
 -- the root, then the adaptors of the left tree and of the right tree
+abbrev pub adaptors_between : ℕ → Plain → Plain → List Adaptor
+adaptors_between m left right = record { multiplier = m; first = first_of left } ∷ adaptors_of left ++ adaptors_of right
+
 abbrev pub adaptors : Network → List Adaptor
-adaptors n = record { multiplier = n.m; first = first_of n.left } ∷ adaptors_of n.left ++ adaptors_of n.right
+adaptors n = adaptors_between n.m n.left n.right
 
 -- the multipliers in that order
 abbrev pub multipliers : Network → List ℕ
@@ -65,6 +80,10 @@ is_reactance Ind = true
 is_reactance Res = false
 is_reactance Src = false
 
+-- an element with this number that is a capacitor or an inductor is among the elements
+abbrev pub has_reactance : List Element → ℕ → Bool
+has_reactance xs i = list_any (λ (x : Element). (x.number == i) && is_reactance x.kind) xs
+
 -- a resistor with this number is among the elements
 abbrev pub has_resistor : List Element → ℕ → Bool
 has_resistor xs i = list_any (λ (x : Element). (x.number == i) && is_resistor x.kind) xs
@@ -74,9 +93,17 @@ abbrev pub has_outlet : List Element → Outlet → Bool
 has_outlet xs (Load i) = has_resistor xs i
 has_outlet xs Source = true
 
+-- the elements of a tree that are sources, and of a network
+abbrev pub sources_of : Plain → List Element
+sources_of t = filter (λ (x : Element). is_source x.kind) (elements_of t)
+
+abbrev pub sources : Network → List Element
+sources n = filter (λ (x : Element). is_source x.kind) (elements n)
+
 -- how often a number stands in a list
 abbrev pub times_in : List ℕ → ℕ → ℕ
-times_in xs i = count_by (λ x. x == i) xs
+times_in [] i = 0
+times_in (x ∷ xs) i = (if x == i then 1 else 0) + times_in xs i
 
 -- what the type of a network keeps
 pub record IsNetwork (n : Network) : Type 0 where
@@ -88,11 +115,11 @@ pub record IsNetwork (n : Network) : Type 0 where
   -- the elements are the numbers below their count, each once
   pub below : All (λ (i : ℕ). i < length (elements n)) (numbers n)
   pub once : (i : ℕ) → i < length (elements n) → times_in (numbers n) i ≡ 1
-  pub one_source : count_by (λ (x : Element). is_source x.kind) (elements n) ≡ 1
+  pub one_source : length (sources n) ≡ 1
   pub outlet : IsTrue (has_outlet (elements n) n.outlet)
   pub left_depth : depth_of n.left ≤ 128
   pub right_depth : depth_of n.right ≤ 128
 
 -- the numbers of the reactances, in netlist order
 abbrev pub reactances : Network → List ℕ
-reactances n = filter (λ (i : ℕ). list_any (λ (x : Element). (x.number == i) && is_reactance x.kind) (elements n)) (range_with_len 0 (length (elements n)))
+reactances n = filter (has_reactance (elements n)) (range_with_len 0 (length (elements n)))

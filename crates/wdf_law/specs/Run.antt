@@ -1,5 +1,5 @@
 -- The reference run: step after step, each from the state that the one before left.
-use Rattle.std.specs.Prelude.{◌≡◌, ℕ, ℤ, pos, ◌==◌, if◌then◌else◌, List, [], ◌∷◌, map}
+use Rattle.std.specs.Prelude.{ℕ, ℤ, pos, ◌==◌, if◌then◌else◌, List, [], ◌∷◌, map}
 use Rattle.wdf_law.specs.Network.{Network, reactances}
 use Rattle.wdf_law.specs.Step.{Frame, IsStep, after}
 

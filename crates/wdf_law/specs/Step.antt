@@ -1,8 +1,8 @@
 -- The reference step: waves at every port of a network and outgoing values at every junction that meet
 -- Kirchhoff's laws at each junction and the element's law at each leaf. Each value is truncated towards
 -- zero as it leaves its junction, and nothing else is lost.
-use Rattle.std.specs.Prelude.{◌≡◌, ℕ, ℤ, pos, Bool, false, ◌==◌, ◌||◌, if◌then◌else◌, List, [], ◌∷◌, map, ◌⊎◌}
-use Rattle.std.specs.List.{range_with_len, list_any}
+use Rattle.std.specs.Prelude.{◌≡◌, ℕ, ℤ, pos, Bool, ◌==◌, if◌then◌else◌, List, map}
+use Rattle.std.specs.List.{list_any}
 use Rattle.wdf_algebra.specs.Truncation.{trunc}
 use Rattle.wdf_law.specs.Trees.{Plain, leaf, series, parallel, Element, elements_of}
 use Rattle.wdf_law.specs.Network.{Network, unit_of, reactances}

@@ -1,5 +1,5 @@
 -- Frames worked by hand, k = 14 and so q = 16384, against which the definitions of a step are checked.
-use Rattle.std.specs.Prelude.{◌≡◌, ℕ, ℤ, pos, neg_ℤ, Bool, true, false, List, [], ◌∷◌}
+use Rattle.std.specs.Prelude.{◌≡◌, ℤ, pos, neg_ℤ, true, false, List, [], ◌∷◌}
 use Rattle.wdf_law.specs.declared.kind.Kind.TheVariants.{Res, Cap, Ind, Src}
 use Rattle.wdf_law.specs.declared.outlet.Outlet.TheVariants.{Load}
 use Rattle.wdf_law.specs.Trees.{leaf, series, parallel}

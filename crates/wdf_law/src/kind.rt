@@ -1,3 +1,5 @@
+ghost use Rattle.std.specs.Prelude.{◌≡◌};
+
 /// What an element is.
 #[derive(Clone, Copy, Debug, PartialEq, Eq)]
 pub enum Kind {
@@ -9,4 +11,29 @@ pub enum Kind {
     Ind,
     /// The source, a voltage in series with a resistance.
     Src,
+}
+
+impl Kind {
+    ghost use Rattle.wdf_law.specs.Network.{is_resistor, is_reactance, is_source};
+
+    /// A resistor.
+    pub fn is_resistor(&self) -> bool
+        ensures { result ≡ is_resistor self.now }
+    {
+        matches!(self, Kind::Res)
+    }
+
+    /// A capacitor or an inductor, which has a state.
+    pub fn is_reactance(&self) -> bool
+        ensures { result ≡ is_reactance self.now }
+    {
+        matches!(self, Kind::Cap | Kind::Ind)
+    }
+
+    /// A source.
+    pub fn is_source(&self) -> bool
+        ensures { result ≡ is_source self.now }
+    {
+        matches!(self, Kind::Src)
+    }
 }

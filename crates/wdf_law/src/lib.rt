@@ -8,13 +8,14 @@
 
 mod kind;
 pub mod laws;
-// mod net;
+mod net;
 mod net_error;
 mod outlet;
+mod rules;
 mod tree;
 
 pub use kind::Kind;
-// pub use net::Net;
+pub use net::Net;
 pub use net_error::NetError;
 pub use outlet::Outlet;
 pub use tree::Tree;

@@ -1,5 +1,8 @@
-ghost use Rattle.std.specs.Prelude.{◌≡◌, ◌≤◌, length};
-ghost use Rattle.wdf_law.specs.Trees.{plain, depth_of, elements_of, first_of};
+ghost use Rattle.std.specs.Prelude.{◌≡◌, ◌≤◌, length, map, nat_le, IfNone};
+ghost use Rattle.wdf_law.specs.Trees.{plain, Element, depth_of, elements_of, first_of};
+ghost use Rattle.wdf_law.specs.Network.{adaptors_of, multipliers_of, numbers_of, sources_of, has_resistor, has_reactance};
+ghost use Rattle.wdf_law.specs.Refusal.{first_out, first_large};
+ghost use Rattle.wdf_law.specs.Marks.{first_marked, marked, number_behind};
 
 use crate::Kind;
 
@@ -46,6 +49,142 @@ impl Tree {
         match self {
             Tree::Leaf { elem, .. } => *elem,
             Tree::Series { l, .. } | Tree::Parallel { l, .. } => l.first_leaf(),
+        }
+    }
+
+    // Whether no leaf stands below `limit` junctions or more.
+    pub(crate) fn within(&self, limit: usize) -> bool
+        ensures { result ≡ nat_le (depth_of (plain self.now)) limit }
+    {
+        match self {
+            Tree::Leaf { .. } => true,
+            Tree::Series { l, r, .. } | Tree::Parallel { l, r, .. } => {
+                limit > 0 && l.within(limit - 1) && r.within(limit - 1)
+            }
+        }
+    }
+
+    // The first leaf of the first junction whose multiplier is not in 1..=q-1.
+    #[tactic(auto, using(crate::proofs::Walks::walks))]
+    pub(crate) fn first_out(&self, q: u32) -> Option<u32>
+        ensures { result ≡ first_out q (adaptors_of (plain self.now)) }
+    {
+        match self {
+            Tree::Leaf { .. } => None,
+            Tree::Series { m, l, r } | Tree::Parallel { m, l, r } => {
+                if *m < 1 || *m >= q {
+                    return Some(l.first_leaf());
+                }
+                match l.first_out(q) {
+                    Some(elem) => Some(elem),
+                    None => r.first_out(q),
+                }
+            }
+        }
+    }
+
+    // The first number of 128 or more.
+    #[tactic(auto, using(crate::proofs::Walks::walks))]
+    pub(crate) fn first_large(&self) -> Option<u32>
+        ensures { result ≡ first_large (numbers_of (plain self.now)) }
+    {
+        match self {
+            Tree::Leaf { elem, .. } => { if *elem >= 128 { Some(*elem) } else { None } }
+            Tree::Series { l, r, .. } | Tree::Parallel { l, r, .. } => match l.first_large() {
+                Some(elem) => Some(elem),
+                None => r.first_large(),
+            },
+        }
+    }
+
+    // The first number that is marked already. The others below 128 are marked on the way.
+    #[tactic(auto, using(crate::proofs::Walks::walks))]
+    pub(crate) fn mark(&self, marks: &mut [bool; 128]) -> Option<u32>
+        ensures first { result ≡ first_marked marks.old (numbers_of (plain self.now)) }
+        ensures marks { IfNone result (marks.new ≡ marked marks.old (numbers_of (plain self.now))) }
+    {
+        match self {
+            Tree::Leaf { elem, .. } => {
+                let at = *elem as usize;
+                if at < 128 {
+                    if marks[at] {
+                        return Some(*elem);
+                    }
+                    marks[at] = true;
+                }
+                None
+            }
+            Tree::Series { l, r, .. } | Tree::Parallel { l, r, .. } => match l.mark(marks) {
+                Some(elem) => Some(elem),
+                None => r.mark(marks),
+            },
+        }
+    }
+
+    // The number of the source behind `skip` others, or how many are still to skip.
+    #[tactic(auto, using(crate::proofs::Walks::walks))]
+    pub(crate) fn source_behind(&self, skip: usize) -> Result<u32, usize>
+        ensures { result ≡ number_behind skip (map (λ (x : Element). x.number) (sources_of (plain self.now))) }
+    {
+        match self {
+            Tree::Leaf { elem, kind, .. } => {
+                if !kind.is_source() {
+                    Err(skip)
+                } else if skip == 0 {
+                    Ok(*elem)
+                } else {
+                    Err(skip - 1)
+                }
+            }
+            Tree::Series { l, r, .. } | Tree::Parallel { l, r, .. } => match l.source_behind(skip) {
+                Ok(elem) => Ok(elem),
+                Err(left) => r.source_behind(left),
+            },
+        }
+    }
+
+    // The multiplier behind `skip` others, a junction before its parts, or how many are still to skip.
+    #[tactic(auto, using(crate::proofs::Walks::walks))]
+    pub(crate) fn multiplier_behind(&self, skip: usize) -> Result<u32, usize>
+        ensures { result ≡ number_behind skip (multipliers_of (plain self.now)) }
+    {
+        match self {
+            Tree::Leaf { .. } => Err(skip),
+            Tree::Series { m, l, r } | Tree::Parallel { m, l, r } => {
+                if skip == 0 {
+                    return Ok(*m);
+                }
+                match l.multiplier_behind(skip - 1) {
+                    Ok(m) => Ok(m),
+                    Err(left) => r.multiplier_behind(left),
+                }
+            }
+        }
+    }
+
+    // Whether a resistor has this number.
+    #[tactic(auto, using(crate::proofs::Walks::walks))]
+    pub(crate) fn has_resistor(&self, number: u32) -> bool
+        ensures { result ≡ has_resistor (elements_of (plain self.now)) number }
+    {
+        match self {
+            Tree::Leaf { elem, kind, .. } => *elem == number && kind.is_resistor(),
+            Tree::Series { l, r, .. } | Tree::Parallel { l, r, .. } => {
+                l.has_resistor(number) || r.has_resistor(number)
+            }
+        }
+    }
+
+    // Whether a capacitor or an inductor has this number.
+    #[tactic(auto, using(crate::proofs::Walks::walks))]
+    pub(crate) fn has_reactance(&self, number: u32) -> bool
+        ensures { result ≡ has_reactance (elements_of (plain self.now)) number }
+    {
+        match self {
+            Tree::Leaf { elem, kind, .. } => *elem == number && kind.is_reactance(),
+            Tree::Series { l, r, .. } | Tree::Parallel { l, r, .. } => {
+                l.has_reactance(number) || r.has_reactance(number)
+            }
         }
     }
 }

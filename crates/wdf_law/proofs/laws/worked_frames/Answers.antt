@@ -1,6 +1,6 @@
-use Rattle.std.proofs.Common.{◌≡◌, refl, arith}
+use Rattle.std.proofs.Common.{refl, arith}
 use borrow.Author.Differences.{ints}
-use Rattle.std.specs.Prelude.{ℤ, pos, neg_ℤ, ◌+ℤ◌, ◌-ℤ◌, ◌*ℤ◌}
+use Rattle.std.specs.Prelude.{pos, neg_ℤ}
 use Rattle.wdf_law.specs.Elements.{IsCapacitor, IsInductor}
 use Rattle.wdf_law.proofs.laws.worked_frames.Goals as goal
 

@@ -1,0 +1,158 @@
+ghost use Rattle.std.specs.Prelude.{◌≡◌, ◌≤◌, ◌↔◌, ◌++◌, length, None, Some, IsOk, IfOk, IfErr, slice_get, map};
+ghost use Rattle.wdf_law.specs.Trees.{plain};
+ghost use Rattle.wdf_law.specs.Network.{IsNetwork, Adaptor, network_of, adaptors_of, elements, multipliers, reactances, has_reactance};
+ghost use Rattle.wdf_law.specs.Marks.{number_behind};
+ghost use Rattle.wdf_law.specs.Refusal.{refusal};
+
+use crate::rules::refused;
+use crate::{NetError, Outlet, Tree};
+use std::marker::Model;
+
+/// A quantised network: a left and a right tree of adaptors that are joined at the root. Its
+/// multipliers are counted in units of `2^-k`.
+///
+/// It keeps that `k` is in 1..=20 and every multiplier in `1..=2^k - 1`; that its elements are the
+/// numbers from 0 to their count less 1, each once, at least 2 and at most 128 of them; that just
+/// one is a source; that an outlet `Load` names a resistor; and that no tree is deeper than 128.
+#[derive(Drop)]
+pub struct Net {
+    k: u8,
+    m: u32,
+    left: Tree,
+    right: Tree,
+    outlet: Outlet,
+}
+
+impl Model for Net {
+    ghost use Rattle.wdf_law.specs.Network.{Network};
+    ghost use Rattle.wdf_law.specs.NetworkCode.{network_code};
+
+    ghost Value = { Network };
+
+    ghost coded = { network_code };
+
+    ghost use Rattle.wdf_law.specs.Trees.{plain};
+    ghost use Rattle.wdf_law.specs.Network.{IsNetwork};
+
+    ghost view = { λ n. record { k = n.k; m = n.m; left = plain n.left; right = plain n.right; outlet = n.outlet } };
+
+    ghost invariant = { λ n. IsNetwork (record { k = n.k; m = n.m; left = plain n.left; right = plain n.right; outlet = n.outlet }) };
+}
+
+impl Net {
+    /// Joins two trees at the root, whose multiplier is `m`, in units of `2^-k`.
+    ///
+    /// The first rule that is broken is the refusal, in the order of the variants of [`NetError`].
+    /// Leaves are looked at in the order left tree, right tree, the first part before the second;
+    /// junctions in the order root, left tree, right tree, each before its parts.
+    pub fn new(k: u8, m: u32, left: Tree, right: Tree, outlet: Outlet) -> Result<Net, NetError>
+        ensures accepted { IsOk result ↔ (refusal (network_of k m left right outlet) ≡ None) }
+        ensures network { IfOk result (λ net. net ≡ network_of k m left right outlet) }
+        ensures refused { IfErr result (λ e. refusal (network_of k m left right outlet) ≡ Some e) }
+    {
+        match refused(k, m, &left, &right, outlet) {
+            Some(error) => Err(error),
+            None => Ok(Net {
+                k,
+                m,
+                left,
+                right,
+                outlet,
+            }),
+        }
+    }
+
+    /// The width of the multipliers, in bits.
+    pub fn k(&self) -> u8
+        ensures { result ≡ self.now.k }
+    {
+        self.k
+    }
+
+    /// The root's multiplier, in units of `2^-k`.
+    pub fn root_m(&self) -> u32
+        ensures { result ≡ self.now.m }
+    {
+        self.m
+    }
+
+    pub fn left(&self) -> &Tree
+        ensures { plain result.now ≡ self.now.left }
+    {
+        &self.left
+    }
+
+    pub fn right(&self) -> &Tree
+        ensures { plain result.now ≡ self.now.right }
+    {
+        &self.right
+    }
+
+    /// The element whose down wave is the output.
+    pub fn outlet(&self) -> Outlet
+        ensures { result ≡ self.now.outlet }
+    {
+        self.outlet
+    }
+
+    /// How many elements the network has.
+    #[tactic(auto, using(crate::proofs::Counts::counts_of))]
+    pub fn element_count(&self) -> usize
+        ensures count { result ≡ length (elements self.now) }
+        ensures few { result ≤ 128 }
+    {
+        self.left.leaf_count() + self.right.leaf_count()
+    }
+
+    /// How many capacitors and inductors the network has: the length of its state.
+    #[tactic(auto, using(crate::proofs::Ranges::count_more))]
+    pub fn state_count(&self) -> usize
+        ensures { result ≡ length (reactances self.now) }
+    {
+        let mut count = 0;
+        for i in 0..self.element_count() {
+            if self.has_reactance(i as u32) {
+                count += 1;
+            }
+        }
+        count
+    }
+
+    /// A multiplier, in units of `2^-k`, in the order root, left tree, right tree, each junction
+    /// before its parts.
+    #[tactic(auto, using(crate::proofs::Walks::get_behind))]
+    pub fn multiplier_at(&self, i: usize) -> Option<u32>
+        ensures { result ≡ slice_get (multipliers self.now) i }
+    {
+        if i == 0 {
+            return Some(self.m);
+        }
+        self.multiplier_behind(i - 1).ok()
+    }
+
+    // The multiplier behind the root's and `skip` others, or how many are still to skip.
+    #[tactic(auto, using(crate::proofs::Walks::walks))]
+    fn multiplier_behind(&self, skip: usize) -> Result<u32, usize>
+        ensures { result ≡ number_behind skip (map (λ (a : Adaptor). a.multiplier) (adaptors_of self.now.left ++ adaptors_of self.now.right)) }
+    {
+        match self.left.multiplier_behind(skip) {
+            Ok(m) => Ok(m),
+            Err(skip) => self.right.multiplier_behind(skip),
+        }
+    }
+
+    // Whether a capacitor or an inductor has this number.
+    #[tactic(auto, using(crate::proofs::Walks::walks))]
+    fn has_reactance(&self, number: u32) -> bool
+        ensures { result ≡ has_reactance (elements self.now) number }
+    {
+        self.left.has_reactance(number) || self.right.has_reactance(number)
+    }
+
+    /// What the type of every network keeps.
+    pub fn rules(&self)
+        ensures { IsNetwork self.now }
+    {
+        let _ = &self.m;
+    }
+}
