@@ -2,12 +2,9 @@
 -- two ports, V1 = V2 and J1 + J2 = 0. Here m + n = q, q·g1 = m·(g1 + g2) and q·g2 = n·(g1 + g2).
 use Rattle.std.proofs.Common.{◌≡◌, ℕ, ◌+◌, ◌*◌, ◌<◌, [], ◌∷◌, refl, ap}
 use lib.IntN.{ℤ, pos, ◌+ℤ◌, ◌-ℤ◌, ◌*ℤ◌}
+use Rattle.wdf_algebra.specs.RootValue.{root_value}
 use Rattle.wdf_algebra.proofs.Cancelling.{cancel}
 use Rattle.wdf_algebra.proofs.Polynomials.{con, var, ◌⊕◌, ◌⊖◌, ◌⊗◌, ring, linear_combination}
-
--- the value that leaves the root towards the port whose wave is u, the other wave being w
-abbrev pub root_value : (q m n : ℕ) (u1 u2 u : ℤ) → ℤ
-root_value q m n u1 u2 u = pos 2 *ℤ (pos m *ℤ u1 +ℤ pos n *ℤ u2) -ℤ pos q *ℤ u
 
 -- both ports have the voltage 2·(m·u1 + n·u2)
 pub root_voltage : (q m n : ℕ) (u1 u2 u : ℤ) → pos q *ℤ u +ℤ root_value q m n u1 u2 u ≡ pos 2 *ℤ (pos m *ℤ u1 +ℤ pos n *ℤ u2)

@@ -1,2 +1,3 @@
+pub mod RootValue
 pub mod Squares
 pub mod Truncation

@@ -5,4 +5,4 @@
 
 mod words;
 
-pub use words::quotient;
+pub use words::{quotient, times};

@@ -7,9 +7,10 @@ use Rattle.std.proofs.lemmas.Bool.Decides.{nat_tests}
 use Rattle.std.proofs.lemmas.List.{length-map}
 use Rattle.std.proofs.lemmas.List.Elements.{All-nil, All-cons}
 use Rattle.wdf_law.specs.declared.net_error.NetError.{NetError}
+use Rattle.wdf_law.specs.declared.net_error.NetError.TheVariants.{BadWidth, TooDeep, BadMultiplier}
 use Rattle.wdf_law.specs.Trees.{Plain, leaf, series, parallel, Element, elements_of, depth_of}
 use Rattle.wdf_law.specs.Network.{Network, IsNetwork, Adaptor, unit_of, elements, numbers, adaptors, sources, times_in}
-use Rattle.wdf_law.specs.Refusal.{unless, width_fault, depth_fault, is_out, multiplier_fault, first_large, is_among, first_repeated, least_missing, number_fault, source_fault, outlet_fault, refusal}
+use Rattle.wdf_law.specs.Refusal.{unless, is_width, is_shallow, is_out, first_out, first_large, is_among, first_repeated, least_missing, number_fault, source_fault, refusal}
 use Rattle.wdf_law.proofs.Pigeonhole.{few, all_below}
 
 neither : {A : Type 0} (p q : Option A) → option_or p q ≡ None → (p ≡ None) × (q ≡ None)
@@ -166,11 +167,11 @@ some_leaf (parallel m l r) = omega (arith, some_leaf l, length-append (elements_
 
 pub allowed : (n : Network) → refusal n ≡ None → IsNetwork n
 allowed n none =
-    let a = neither (width_fault n) _ none in
-    let b = neither (depth_fault n) _ a.1 in
-    let c = neither (multiplier_fault n) _ b.1 in
+    let a = neither (unless (is_width n) (BadWidth n.k)) _ none in
+    let b = neither (unless (is_shallow n) TooDeep) _ a.1 in
+    let c = neither (option_map (λ (e : ℕ). BadMultiplier e) (first_out (unit_of n) (adaptors n))) _ b.1 in
     let d = neither (number_fault (numbers n)) _ c.1 in
-    let e = neither (source_fault (sources n)) (outlet_fault n) d.1 in
+    let e = neither (source_fault (sources n)) _ d.1 in
     let width = both (nat_le 1 n.k) (nat_le n.k 20) (passed _ _ a.0) in
     let depth = both (nat_le (depth_of n.left) 128) (nat_le (depth_of n.right) 128) (passed _ _ b.0) in
     let f = neither (option_map _ (first_large (numbers n))) _ d.0 in

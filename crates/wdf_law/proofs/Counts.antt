@@ -1,6 +1,13 @@
--- The leaves of the two trees of a network are few.
-use Rattle.std.proofs.Common.{◌≡◌, ◌+◌, ◌++◌, length, length-append}
+-- How many leaves a network has, and how large its multiplier is at the root.
+use Rattle.std.proofs.Common.{◌<◌, ◌^◌, ◌∷◌, map, ◌≡◌, ◌+◌, ◌++◌, length, length-append}
+use Rattle.std.proofs.Common.{ℕ, ◌≤◌}
+use Rattle.std.proofs.lemmas.List.Elements.{All-head}
 use Rattle.wdf_law.specs.Trees.{Plain, elements_of}
+use Rattle.wdf_law.specs.Network.{Network, IsNetwork, Adaptor, unit_of, adaptors_of}
 
 pub counts_of : (l r : Plain) → length (elements_of l ++ elements_of r) ≡ length (elements_of l) + length (elements_of r)
 counts_of l r = length-append (elements_of l) (elements_of r)
+
+-- the root's multiplier is in its range
+pub root_range : (n : Network) → IsNetwork n → (1 ≤ n.m) × (n.m < 2 ^ n.k)
+root_range n rules = All-head (λ (m : ℕ). (1 ≤ m) × (m < unit_of n)) n.m (map (λ (a : Adaptor). a.multiplier) (adaptors_of n.left ++ adaptors_of n.right)) rules.multipliers

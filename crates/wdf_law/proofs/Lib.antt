@@ -4,5 +4,6 @@ pub mod Marking
 pub mod NumberFaults
 pub mod Pigeonhole
 pub mod Ranges
+pub mod Refusing
 pub mod Sources
 pub mod Walks

@@ -1,8 +1,8 @@
-ghost use Rattle.std.specs.Prelude.{◌≡◌, ◌≤◌, ◌↔◌, ◌++◌, length, None, Some, IsOk, IfOk, IfErr, slice_get, map};
+ghost use Rattle.std.specs.Prelude.{◌≡◌, ℕ, ◌<◌, ◌≤◌, ◌^◌, ◌↔◌, ◌++◌, length, None, Some, IsOk, IfOk, slice_get, map};
 ghost use Rattle.wdf_law.specs.Trees.{plain};
 ghost use Rattle.wdf_law.specs.Network.{IsNetwork, Adaptor, network_of, adaptors_of, elements, multipliers, reactances, has_reactance};
 ghost use Rattle.wdf_law.specs.Marks.{number_behind};
-ghost use Rattle.wdf_law.specs.Refusal.{refusal};
+ghost use Rattle.wdf_law.specs.Refusal.{refusal, HasBadWidth, IsTooDeep, HasBadMultiplier, HasBadElement, HasDoubleElement, HasMissingElement, HasNoSource, HasDoubleSource, HasNoOutlet};
 
 use crate::rules::refused;
 use crate::{NetError, Outlet, Tree};
@@ -42,13 +42,26 @@ impl Model for Net {
 impl Net {
     /// Joins two trees at the root, whose multiplier is `m`, in units of `2^-k`.
     ///
-    /// The first rule that is broken is the refusal, in the order of the variants of [`NetError`].
     /// Leaves are looked at in the order left tree, right tree, the first part before the second;
     /// junctions in the order root, left tree, right tree, each before its parts.
+    ///
+    /// # Errors
+    ///
+    /// The first rule that is broken, in the order of the variants of [`NetError`].
     pub fn new(k: u8, m: u32, left: Tree, right: Tree, outlet: Outlet) -> Result<Net, NetError>
         ensures accepted { IsOk result ↔ (refusal (network_of k m left right outlet) ≡ None) }
         ensures network { IfOk result (λ net. net ≡ network_of k m left right outlet) }
-        ensures refused { IfErr result (λ e. refusal (network_of k m left right outlet) ≡ Some e) }
+
+        // Each refusal comes exactly where its rule is broken, and none before it.
+        ensures bad_width { (result ≡ Err (NetError.BadWidth k)) ↔ HasBadWidth (network_of k m left right outlet) k }
+        ensures too_deep { (result ≡ Err NetError.TooDeep) ↔ IsTooDeep (network_of k m left right outlet) }
+        ensures bad_multiplier { (e : ℕ) → (result ≡ Err (NetError.BadMultiplier e)) ↔ HasBadMultiplier (network_of k m left right outlet) e }
+        ensures bad_element { (e : ℕ) → (result ≡ Err (NetError.BadElement e)) ↔ HasBadElement (network_of k m left right outlet) e }
+        ensures double_element { (e : ℕ) → (result ≡ Err (NetError.DoubleElement e)) ↔ HasDoubleElement (network_of k m left right outlet) e }
+        ensures missing_element { (e : ℕ) → (result ≡ Err (NetError.MissingElement e)) ↔ HasMissingElement (network_of k m left right outlet) e }
+        ensures no_source { (result ≡ Err NetError.NoSource) ↔ HasNoSource (network_of k m left right outlet) }
+        ensures double_source { (e : ℕ) → (result ≡ Err (NetError.DoubleSource e)) ↔ HasDoubleSource (network_of k m left right outlet) e }
+        ensures no_outlet { (result ≡ Err NetError.NoOutlet) ↔ HasNoOutlet (network_of k m left right outlet) }
     {
         match refused(k, m, &left, &right, outlet) {
             Some(error) => Err(error),
@@ -64,14 +77,17 @@ impl Net {
 
     /// The width of the multipliers, in bits.
     pub fn k(&self) -> u8
-        ensures { result ≡ self.now.k }
+        ensures value { result ≡ self.now.k }
+        ensures range { (1 ≤ result) × (result ≤ 20) }
     {
         self.k
     }
 
     /// The root's multiplier, in units of `2^-k`.
+    #[tactic(auto, using(crate::proofs::Counts::root_range))]
     pub fn root_m(&self) -> u32
-        ensures { result ≡ self.now.m }
+        ensures value { result ≡ self.now.m }
+        ensures range { (1 ≤ result) × (result < 2 ^ self.now.k) }
     {
         self.m
     }
