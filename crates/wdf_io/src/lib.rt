@@ -1,0 +1,24 @@
+//! Where bytes come from and go to.
+//!
+//! Three traits stand for the outside. A [`Source`] gives bytes, a [`Sink`] takes bytes, and a [`Shelf`] holds
+//! files by their names. Each counts its faults: an answer that blames the object comes only where that count
+//! rose in the call. Each may tell its content to contracts: the bytes that are left, the bytes that were
+//! written, the files. Clauses on content hold where it is told, clauses on counts hold always.
+//!
+//! [`take_exact`] and [`put_all`] move a whole buffer, however small the pieces are in which an object moves it.
+#![tactic(auto)]
+
+mod copy;
+mod failed;
+mod load_error;
+mod shelf;
+mod sink;
+mod source;
+
+pub use copy::{put_all, take_exact};
+pub use failed::Failed;
+pub use load_error::LoadError;
+pub use shelf::Shelf;
+pub use sink::Sink;
+pub use source::Source;
+pub use std::alloc::AllocError as NoMemory;
