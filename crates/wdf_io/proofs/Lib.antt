@@ -1,1 +1,2 @@
 mod FilledLemmas
+mod ServedLemmas

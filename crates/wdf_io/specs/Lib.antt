@@ -1,3 +1,9 @@
+pub mod Calls
 pub mod Causes
 pub mod Files
+pub mod MemShelf
+pub mod MemSink
+pub mod MemSource
 pub mod Moved
+pub mod SureShelf
+pub mod SureSource

@@ -8,17 +8,28 @@
 //! [`take_exact`] and [`put_all`] move a whole buffer, however small the pieces are in which an object moves it.
 #![tactic(auto)]
 
+mod calls;
 mod copy;
 mod failed;
 mod load_error;
+mod mem_shelf;
+mod mem_sink;
+mod mem_source;
 mod shelf;
 mod sink;
 mod source;
+mod sure_shelf;
+mod sure_source;
 
 pub use copy::{put_all, take_exact};
 pub use failed::Failed;
 pub use load_error::LoadError;
+pub use mem_shelf::MemShelf;
+pub use mem_sink::MemSink;
+pub use mem_source::MemSource;
 pub use shelf::Shelf;
 pub use sink::Sink;
 pub use source::Source;
 pub use std::alloc::AllocError as NoMemory;
+pub use sure_shelf::SureShelf;
+pub use sure_source::SureSource;

@@ -1,0 +1,46 @@
+ghost use Rattle.std.specs.Prelude.{◌^◌, ◌<◌};
+
+/// The calls of an object in memory: which fail, how many there were, and how many failed.
+#[derive(Debug, Drop)]
+pub(crate) struct Calls {
+    fails: Vec<u64>,
+    number: u64,
+    faults: u64,
+    ghost counted: { faults < 2 ^ 64 },
+}
+
+impl Calls {
+    ghost use Rattle.std.specs.Prelude.{◌≡◌, ◌↔◌, IsTrue, if◌then◌else◌};
+    ghost use Rattle.wdf_io.specs.Calls.{call_state, no_calls, FailsNext, after_call, after_fault};
+    ghost use Rattle.wdf_io.specs.Causes.{next_count};
+
+    pub(crate) fn new(fails: Vec<u64>) -> Self
+        ensures { call_state result ≡ no_calls fails.items }
+    {
+        Calls {
+            fails,
+            number: 0,
+            faults: 0,
+        }
+    }
+
+    // Makes the next call, and says whether it fails.
+    pub(crate) fn next_fails(&mut self) -> bool
+        ensures failing { IsTrue result ↔ FailsNext (call_state self.old) }
+        ensures after { call_state self.new ≡ (if result then after_fault (call_state self.old) else after_call (call_state self.old)) }
+    {
+        let is_failing = self.fails.contains(&self.number);
+        self.number = self.number.saturating_add(1);
+        if is_failing {
+            self.count_fault();
+        }
+        is_failing
+    }
+
+    // The count rises by one.
+    pub(crate) fn count_fault(&mut self)
+        ensures { call_state self.new ≡ record (call_state self.old) { faults = next_count self.old.faults } }
+    {
+        self.faults = self.faults.saturating_add(1);
+    }
+}
