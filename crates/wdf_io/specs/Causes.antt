@@ -1,5 +1,5 @@
 -- The count of an object's faults, and the answers that have to have one as their cause.
-use Rattle.std.specs.Prelude.{◌≡◌, ℕ, ◌+◌, ◌-◌, ◌^◌, ◌<◌, ◌≤◌, min, List, length, Result, OnErr, IfOk}
+use Rattle.std.specs.Prelude.{◌≡◌, ℕ, ◌+◌, ◌-◌, ◌^◌, ◌<◌, ◌≤◌, min, List, length, Result, OnErr, IfOk, is_err, if◌then◌else◌}
 
 -- the count after n, which stands still at 2^64 - 1
 abbrev pub next_count : ℕ → ℕ
@@ -19,3 +19,7 @@ pub record WriteHasCause {E : Type 0} (before now : ℕ) (result : Result ℕ E)
   pub later : before ≤ now
   pub failed : OnErr result (Rose before now)
   pub stuck : IfOk result (λ n. n ≡ 0 → 0 < length piece → Rose before now)
+
+-- the count rises by one at each failure, and at nothing else
+abbrev pub CountsFailures : {T E : Type 0} → ℕ → ℕ → Result T E → Type 0
+CountsFailures before now result = now ≡ (if is_err result then next_count before else before)

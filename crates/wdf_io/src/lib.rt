@@ -10,6 +10,7 @@
 
 mod calls;
 mod copy;
+mod dir_shelf;
 mod failed;
 mod load_error;
 mod mem_shelf;
@@ -18,10 +19,13 @@ mod mem_source;
 mod shelf;
 mod sink;
 mod source;
+mod std_sink;
+mod std_source;
 mod sure_shelf;
 mod sure_source;
 
 pub use copy::{put_all, take_exact};
+pub use dir_shelf::DirShelf;
 pub use failed::Failed;
 pub use load_error::LoadError;
 pub use mem_shelf::MemShelf;
@@ -31,5 +35,7 @@ pub use shelf::Shelf;
 pub use sink::Sink;
 pub use source::Source;
 pub use std::alloc::AllocError as NoMemory;
+pub use std_sink::StdSink;
+pub use std_source::StdSource;
 pub use sure_shelf::SureShelf;
 pub use sure_source::SureSource;

@@ -1,0 +1,6 @@
+use Rattle.std.specs.Prelude.{ℕ}
+use Rattle.wdf_io.specs.declared.std_sink.StdSink.{StdSink}
+
+-- how often the writer has failed
+abbrev pub sink_faults : {W : Type 0} → StdSink W → ℕ
+sink_faults sink = sink.faults

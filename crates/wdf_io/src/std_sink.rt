@@ -1,0 +1,66 @@
+ghost use Rattle.std.specs.Prelude.{◌^◌, ◌<◌};
+ghost use Rattle.std.specs.Io.{WritesAtMost};
+
+use crate::{Failed, Sink};
+use std::io::{self, Write};
+
+/// A sink over a writer of std, as the standard output. It tells none of its bytes.
+#[derive(Drop)]
+pub struct StdSink<W> {
+    inner: W,
+    faults: u64,
+    ghost counted: { faults < 2 ^ 64 },
+}
+
+impl<W: Write> StdSink<W> {
+    ghost use Rattle.std.specs.Prelude.{◌≡◌};
+    ghost use Rattle.wdf_io.specs.StdSink.{sink_faults};
+
+    /// A sink over this writer, with a count of 0.
+    pub fn new(inner: W) -> Self
+        ensures { sink_faults result ≡ 0 }
+    {
+        StdSink { inner, faults: 0 }
+    }
+}
+
+impl<W: Write> Sink for StdSink<W> {
+    ghost use Rattle.std.specs.Prelude.{None};
+    ghost use Rattle.std.specs.Io.{WritesAtMost};
+    ghost use Rattle.std.specs.Io.KnownBytes.{WriteAppends};
+    ghost use Rattle.wdf_io.specs.Causes.{WriteHasCause, CountsFailures};
+    ghost use Rattle.wdf_io.specs.StdSink.{sink_faults};
+
+    ghost written = { λ _. None };
+
+    ghost faults = { λ sink. sink_faults sink };
+
+    ghost counted = { λ sink. sink.counted };
+
+    /// Writes once to the writer, and flushes it. `Failed`, and a larger count, where either answers an error, or
+    /// where the writer takes nothing of a piece that is not empty.
+    fn write(&mut self, piece: &[u8]) -> Result<usize, Failed>
+        ensures bound { WritesAtMost result piece.now }
+        ensures bytes { WriteAppends None None result piece.now }
+        ensures cause { WriteHasCause (sink_faults self.old) (sink_faults self.new) result piece.now }
+
+        ensures count { CountsFailures (sink_faults self.old) (sink_faults self.new) result }
+    {
+        match write_through(&mut self.inner, piece) {
+            Ok(count) if count > 0 || piece.is_empty() => Ok(count),
+            _ => {
+                self.faults = self.faults.saturating_add(1);
+                Err(Failed)
+            }
+        }
+    }
+}
+
+// Writes once, and flushes what was taken.
+fn write_through<W: Write>(writer: &mut W, piece: &[u8]) -> io::Result<usize>
+    ensures { WritesAtMost result piece.now }
+{
+    let count = writer.write(piece)?;
+    writer.flush()?;
+    Ok(count)
+}

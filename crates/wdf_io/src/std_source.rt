@@ -1,0 +1,55 @@
+ghost use Rattle.std.specs.Prelude.{◌^◌, ◌<◌};
+
+use crate::{Failed, Source};
+use std::io::Read;
+
+/// A source over a reader of std, as the standard input. It tells none of its bytes.
+#[derive(Drop)]
+pub struct StdSource<R> {
+    inner: R,
+    faults: u64,
+    ghost counted: { faults < 2 ^ 64 },
+}
+
+impl<R: Read> StdSource<R> {
+    ghost use Rattle.std.specs.Prelude.{◌≡◌};
+    ghost use Rattle.wdf_io.specs.StdSource.{source_faults};
+
+    /// A source over this reader, with a count of 0.
+    pub fn new(inner: R) -> Self
+        ensures { source_faults result ≡ 0 }
+    {
+        StdSource { inner, faults: 0 }
+    }
+}
+
+impl<R: Read> Source for StdSource<R> {
+    ghost use Rattle.std.specs.Prelude.{None};
+    ghost use Rattle.std.specs.Io.{ReadsAtMost};
+    ghost use Rattle.std.specs.Io.KnownBytes.{ReadConsumes};
+    ghost use Rattle.wdf_io.specs.Causes.{HasCause, CountsFailures};
+    ghost use Rattle.wdf_io.specs.StdSource.{source_faults};
+
+    ghost left = { λ _. None };
+
+    ghost faults = { λ source. source_faults source };
+
+    ghost counted = { λ source. source.counted };
+
+    /// Reads once from the reader. `Failed`, and a larger count, where the reader answers an error.
+    fn read(&mut self, buf: &mut [u8]) -> Result<usize, Failed>
+        ensures bound { ReadsAtMost result buf.new }
+        ensures bytes { ReadConsumes None None result buf.new }
+        ensures cause { HasCause (source_faults self.old) (source_faults self.new) result }
+
+        ensures count { CountsFailures (source_faults self.old) (source_faults self.new) result }
+    {
+        match self.inner.read(buf) {
+            Ok(count) => Ok(count),
+            Err(_) => {
+                self.faults = self.faults.saturating_add(1);
+                Err(Failed)
+            }
+        }
+    }
+}
