@@ -29,4 +29,4 @@ after_fault calls = record calls { number = next_count calls.number; faults = ne
 
 -- what the object's own record of its calls shows
 abbrev pub call_state : Calls → CallState
-call_state calls = record { fails = calls.fails.items; number = calls.number; faults = calls.faults }
+call_state calls = record { fails = calls.fails.items; number = calls.number.value; faults = calls.faults.value }

@@ -4,7 +4,7 @@ use Rattle.wdf_io.specs.declared.dir_shelf.DirShelf.{DirShelf}
 
 -- how often a load has failed
 abbrev pub dir_faults : {R : Type 0} → DirShelf R → ℕ
-dir_faults shelf = shelf.faults
+dir_faults shelf = shelf.faults.value
 
 -- the system's files are not told
 abbrev pub not_told : Option Files

@@ -3,4 +3,4 @@ use Rattle.wdf_io.specs.declared.std_sink.StdSink.{StdSink}
 
 -- how often the writer has failed
 abbrev pub sink_faults : {W : Type 0} → StdSink W → ℕ
-sink_faults sink = sink.faults
+sink_faults sink = sink.faults.value

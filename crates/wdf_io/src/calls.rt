@@ -1,12 +1,11 @@
-ghost use Rattle.std.specs.Prelude.{◌^◌, ◌<◌};
+use crate::count::Count;
 
 /// The calls of an object in memory: which fail, how many there were, and how many failed.
 #[derive(Debug, Drop)]
 pub(crate) struct Calls {
     fails: Vec<u64>,
-    number: u64,
-    faults: u64,
-    ghost counted: { faults < 2 ^ 64 },
+    number: Count,
+    faults: Count,
 }
 
 impl Calls {
@@ -19,8 +18,8 @@ impl Calls {
     {
         Calls {
             fails,
-            number: 0,
-            faults: 0,
+            number: Count::zero(),
+            faults: Count::zero(),
         }
     }
 
@@ -29,8 +28,8 @@ impl Calls {
         ensures failing { IsTrue result ↔ FailsNext (call_state self.old) }
         ensures after { call_state self.new ≡ (if result then after_fault (call_state self.old) else after_call (call_state self.old)) }
     {
-        let is_failing = self.fails.contains(&self.number);
-        self.number = self.number.saturating_add(1);
+        let is_failing = self.fails.contains(&self.number.value());
+        self.number.rise();
         if is_failing {
             self.count_fault();
         }
@@ -39,8 +38,8 @@ impl Calls {
 
     // The count rises by one.
     pub(crate) fn count_fault(&mut self)
-        ensures { call_state self.new ≡ record (call_state self.old) { faults = next_count self.old.faults } }
+        ensures { call_state self.new ≡ record (call_state self.old) { faults = next_count self.old.faults.value } }
     {
-        self.faults = self.faults.saturating_add(1);
+        self.faults.rise();
     }
 }

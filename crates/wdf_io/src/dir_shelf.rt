@@ -1,5 +1,6 @@
-ghost use Rattle.std.specs.Prelude.{◌^◌, ◌<◌, ◌≤◌, IfOk, vec_len};
+ghost use Rattle.std.specs.Prelude.{◌≤◌, IfOk, vec_len};
 
+use crate::count::Count;
 use crate::{LoadError, Shelf};
 use std::alloc::Global;
 use std::fs;
@@ -13,8 +14,7 @@ const BLOCK: usize = 4096;
 #[derive(Drop)]
 pub struct DirShelf<'a, R> {
     rt: &'a R,
-    faults: u64,
-    ghost counted: { faults < 2 ^ 64 },
+    faults: Count,
 }
 
 impl<'a, R: Files> DirShelf<'a, R> {
@@ -25,7 +25,10 @@ impl<'a, R: Files> DirShelf<'a, R> {
     pub fn new(rt: &'a R) -> Self
         ensures { dir_faults result ≡ 0 }
     {
-        DirShelf { rt, faults: 0 }
+        DirShelf {
+            rt,
+            faults: Count::zero(),
+        }
     }
 }
 
@@ -39,7 +42,7 @@ impl<R: Files> Shelf for DirShelf<'_, R> {
 
     ghost faults = { λ shelf. dir_faults shelf };
 
-    ghost counted = { λ shelf. shelf.counted };
+    ghost counted = { λ shelf. shelf.faults.bounded };
 
     /// The whole file at this path. `Missing` where the system says that it is not found, `TooLarge` where more than
     /// `limit` bytes came, `Failed` at any other error of the system. The count rises at each of these, and at
@@ -55,7 +58,7 @@ impl<R: Files> Shelf for DirShelf<'_, R> {
     {
         let result = read_file(self.rt, alloc, name, limit);
         if result.is_err() {
-            self.faults = self.faults.saturating_add(1);
+            self.faults.rise();
         }
         result
     }

@@ -10,6 +10,7 @@
 
 mod calls;
 mod copy;
+mod count;
 mod dir_shelf;
 mod failed;
 mod load_error;
@@ -39,3 +40,6 @@ pub use std_sink::StdSink;
 pub use std_source::StdSource;
 pub use sure_shelf::SureShelf;
 pub use sure_source::SureSource;
+
+#[cfg(test)]
+mod tests;

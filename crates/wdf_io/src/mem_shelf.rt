@@ -39,7 +39,7 @@ impl Shelf for MemShelf {
 
     ghost faults = { λ shelf. (shelf_state shelf).calls.faults };
 
-    ghost counted = { λ shelf. shelf.calls.counted };
+    ghost counted = { λ shelf. shelf.calls.faults.bounded };
 
     /// `Failed` exactly at the calls whose numbers were given.
     fn load(&mut self, alloc: Global, name: &str, limit: usize) -> Result<Vec<u8>, LoadError>

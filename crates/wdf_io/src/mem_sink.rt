@@ -58,7 +58,7 @@ impl Sink for MemSink {
 
     ghost faults = { λ sink. (sink_state sink).calls.faults };
 
-    ghost counted = { λ sink. sink.calls.counted };
+    ghost counted = { λ sink. sink.calls.faults.bounded };
 
     /// Fails exactly at the calls whose numbers were given. Any other call takes the least of the sink's piece,
     /// the length of `piece` and the room left; where that is 0 and `piece` is not empty, the count rises.

@@ -43,7 +43,7 @@ impl Source for MemSource {
 
     ghost faults = { λ source. (source_state source).calls.faults };
 
-    ghost counted = { λ source. source.calls.counted };
+    ghost counted = { λ source. source.calls.faults.bounded };
 
     /// Fails exactly at the calls whose numbers were given. Any other call gives the least of the piece, the
     /// buffer's length and the number of bytes left.

@@ -1,6 +1,6 @@
-ghost use Rattle.std.specs.Prelude.{◌^◌, ◌<◌};
 ghost use Rattle.std.specs.Io.{WritesAtMost};
 
+use crate::count::Count;
 use crate::{Failed, Sink};
 use std::io::{self, Write};
 
@@ -8,8 +8,7 @@ use std::io::{self, Write};
 #[derive(Drop)]
 pub struct StdSink<W> {
     inner: W,
-    faults: u64,
-    ghost counted: { faults < 2 ^ 64 },
+    faults: Count,
 }
 
 impl<W: Write> StdSink<W> {
@@ -20,7 +19,10 @@ impl<W: Write> StdSink<W> {
     pub fn new(inner: W) -> Self
         ensures { sink_faults result ≡ 0 }
     {
-        StdSink { inner, faults: 0 }
+        StdSink {
+            inner,
+            faults: Count::zero(),
+        }
     }
 }
 
@@ -35,7 +37,7 @@ impl<W: Write> Sink for StdSink<W> {
 
     ghost faults = { λ sink. sink_faults sink };
 
-    ghost counted = { λ sink. sink.counted };
+    ghost counted = { λ sink. sink.faults.bounded };
 
     /// Writes once to the writer, and flushes it. `Failed`, and a larger count, where either answers an error, or
     /// where the writer takes nothing of a piece that is not empty.
@@ -49,7 +51,7 @@ impl<W: Write> Sink for StdSink<W> {
         match write_through(&mut self.inner, piece) {
             Ok(count) if count > 0 || piece.is_empty() => Ok(count),
             _ => {
-                self.faults = self.faults.saturating_add(1);
+                self.faults.rise();
                 Err(Failed)
             }
         }

@@ -1,5 +1,4 @@
-ghost use Rattle.std.specs.Prelude.{◌^◌, ◌<◌};
-
+use crate::count::Count;
 use crate::{Failed, Source};
 use std::io::Read;
 
@@ -7,8 +6,7 @@ use std::io::Read;
 #[derive(Drop)]
 pub struct StdSource<R> {
     inner: R,
-    faults: u64,
-    ghost counted: { faults < 2 ^ 64 },
+    faults: Count,
 }
 
 impl<R: Read> StdSource<R> {
@@ -19,7 +17,10 @@ impl<R: Read> StdSource<R> {
     pub fn new(inner: R) -> Self
         ensures { source_faults result ≡ 0 }
     {
-        StdSource { inner, faults: 0 }
+        StdSource {
+            inner,
+            faults: Count::zero(),
+        }
     }
 }
 
@@ -34,7 +35,7 @@ impl<R: Read> Source for StdSource<R> {
 
     ghost faults = { λ source. source_faults source };
 
-    ghost counted = { λ source. source.counted };
+    ghost counted = { λ source. source.faults.bounded };
 
     /// Reads once from the reader. `Failed`, and a larger count, where the reader answers an error.
     fn read(&mut self, buf: &mut [u8]) -> Result<usize, Failed>
@@ -47,7 +48,7 @@ impl<R: Read> Source for StdSource<R> {
         match self.inner.read(buf) {
             Ok(count) => Ok(count),
             Err(_) => {
-                self.faults = self.faults.saturating_add(1);
+                self.faults.rise();
                 Err(Failed)
             }
         }
