@@ -1,4 +1,6 @@
+ghost use Rattle.std.specs.Prelude.{take, IfOk};
 ghost use Rattle.std.specs.Io.{WritesAtMost};
+ghost use Rattle.std.specs.Io.KnownBytes.{Appends};
 
 use crate::count::Count;
 use crate::{Failed, Sink};
@@ -13,11 +15,12 @@ pub struct StdSink<W> {
 
 impl<W: Write> StdSink<W> {
     ghost use Rattle.std.specs.Prelude.{◌≡◌};
-    ghost use Rattle.wdf_io.specs.StdSink.{sink_faults};
+    ghost use Rattle.wdf_io.specs.StdSink.{sink_faults, sink_writer};
 
     /// A sink over this writer, with a count of 0.
     pub fn new(inner: W) -> Self
-        ensures { sink_faults result ≡ 0 }
+        ensures writer { sink_writer result ≡ inner }
+        ensures count { sink_faults result ≡ 0 }
     {
         StdSink {
             inner,
@@ -27,11 +30,11 @@ impl<W: Write> StdSink<W> {
 }
 
 impl<W: Write> Sink for StdSink<W> {
-    ghost use Rattle.std.specs.Prelude.{None};
+    ghost use Rattle.std.specs.Prelude.{None, take, IfOk};
     ghost use Rattle.std.specs.Io.{WritesAtMost};
-    ghost use Rattle.std.specs.Io.KnownBytes.{WriteAppends};
+    ghost use Rattle.std.specs.Io.KnownBytes.{WriteAppends, Appends};
     ghost use Rattle.wdf_io.specs.Causes.{WriteHasCause, CountsFailures};
-    ghost use Rattle.wdf_io.specs.StdSink.{sink_faults};
+    ghost use Rattle.wdf_io.specs.StdSink.{sink_faults, sink_writer};
 
     ghost written = { λ _. None };
 
@@ -46,6 +49,8 @@ impl<W: Write> Sink for StdSink<W> {
         ensures bytes { WriteAppends None None result piece.now }
         ensures cause { WriteHasCause (sink_faults self.old) (sink_faults self.new) result piece.now }
 
+        // The sink tells no bytes, but where the writer does, they are those.
+        ensures writer { IfOk result (λ n. Appends (W.contents (sink_writer self.old)) (W.contents (sink_writer self.new)) (take n piece.now)) }
         ensures count { CountsFailures (sink_faults self.old) (sink_faults self.new) result }
     {
         match write_through(&mut self.inner, piece) {
@@ -60,7 +65,8 @@ impl<W: Write> Sink for StdSink<W> {
 
 // Writes once, and flushes what was taken.
 fn write_through<W: Write>(writer: &mut W, piece: &[u8]) -> io::Result<usize>
-    ensures { WritesAtMost result piece.now }
+    ensures bound { WritesAtMost result piece.now }
+    ensures bytes { IfOk result (λ n. Appends (W.contents writer.old) (W.contents writer.new) (take n piece.now)) }
 {
     let count = writer.write(piece)?;
     writer.flush()?;

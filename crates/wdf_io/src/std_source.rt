@@ -11,11 +11,12 @@ pub struct StdSource<R> {
 
 impl<R: Read> StdSource<R> {
     ghost use Rattle.std.specs.Prelude.{◌≡◌};
-    ghost use Rattle.wdf_io.specs.StdSource.{source_faults};
+    ghost use Rattle.wdf_io.specs.StdSource.{source_faults, source_reader};
 
     /// A source over this reader, with a count of 0.
     pub fn new(inner: R) -> Self
-        ensures { source_faults result ≡ 0 }
+        ensures reader { source_reader result ≡ inner }
+        ensures count { source_faults result ≡ 0 }
     {
         StdSource {
             inner,
@@ -29,7 +30,7 @@ impl<R: Read> Source for StdSource<R> {
     ghost use Rattle.std.specs.Io.{ReadsAtMost};
     ghost use Rattle.std.specs.Io.KnownBytes.{ReadConsumes};
     ghost use Rattle.wdf_io.specs.Causes.{HasCause, CountsFailures};
-    ghost use Rattle.wdf_io.specs.StdSource.{source_faults};
+    ghost use Rattle.wdf_io.specs.StdSource.{source_faults, source_reader};
 
     ghost left = { λ _. None };
 
@@ -43,6 +44,8 @@ impl<R: Read> Source for StdSource<R> {
         ensures bytes { ReadConsumes None None result buf.new }
         ensures cause { HasCause (source_faults self.old) (source_faults self.new) result }
 
+        // The source tells no bytes, but where the reader does, they are those.
+        ensures reader { ReadConsumes (R.remaining (source_reader self.old)) (R.remaining (source_reader self.new)) result buf.new }
         ensures count { CountsFailures (source_faults self.old) (source_faults self.new) result }
     {
         match self.inner.read(buf) {

@@ -1,6 +1,7 @@
 use super::*;
 use std::alloc::Global;
 use std::fs;
+use std::io::{self, ErrorKind, Read, Write};
 use std::process::Abort;
 use std::test::*;
 
@@ -80,6 +81,32 @@ fn a_writer_takes_the_whole_piece(rt: HostRuntime) {
     let mut bytes = Vec::new(rt.alloc());
     puts(&rt, &mut StdSink::new(&mut bytes), TEXT, Ok(()));
     holds(&rt, &bytes, TEXT);
+}
+
+// A reader that only fails, and a writer that takes all and then fails to flush it.
+#[derive(Drop)]
+struct Broken;
+
+impl Read for Broken {
+    fn read(&mut self, _: &mut [u8]) -> io::Result<usize> {
+        Err(io::Error::from(ErrorKind::Other))
+    }
+}
+
+impl Write for Broken {
+    fn write(&mut self, piece: &[u8]) -> io::Result<usize> {
+        Ok(piece.len())
+    }
+
+    fn flush(&mut self) -> io::Result<()> {
+        Err(io::Error::from(ErrorKind::Other))
+    }
+}
+
+#[test]
+fn an_error_of_the_system_is_a_failure(rt: HostRuntime) {
+    takes(&rt, &mut StdSource::new(Broken), &mut [0; 6], Err(Failed));
+    puts(&rt, &mut StdSink::new(Broken), TEXT, Err(Failed));
 }
 
 fn named(alloc: Global, name: &str, bytes: &[u8]) -> Result<(String, Vec<u8>), NoMemory> {
