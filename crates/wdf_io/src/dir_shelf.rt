@@ -1,4 +1,5 @@
-ghost use Rattle.std.specs.Prelude.{◌≤◌, IfOk, vec_len};
+ghost use Rattle.std.specs.Prelude.{◌≤◌, ◌<◌, length, IfOk, OnOk, IfSome, IsErrOf, vec_len};
+ghost use Rattle.std.specs.Io.KnownBytes.{Consumes, IsAtEnd};
 
 use crate::count::Count;
 use crate::{LoadError, Shelf};
@@ -80,9 +81,13 @@ fn read_file<R: Files>(
     }
 }
 
-// All bytes of a reader, of which it takes few more than the limit: it may have no end.
+// All bytes of a reader, of which it takes few more than the limit: it may have no end. What the reader has left is
+// known where it tells that.
 fn read_within<R: Read>(reader: &mut R, alloc: Global, limit: usize) -> Result<Vec<u8>, LoadError>
-    ensures { IfOk result (λ v. vec_len v ≤ limit) }
+    ensures bound { IfOk result (λ v. vec_len v ≤ limit) }
+    ensures whole { IfOk result (λ v. Consumes (R.remaining reader.old) (R.remaining reader.new) v.items) }
+    ensures end { OnOk result (IsAtEnd (R.remaining reader.new)) }
+    ensures too_large { IsErrOf result LoadError.TooLarge → IfSome (R.remaining reader.old) (λ bytes. limit < length bytes) }
 {
     let mut bytes = Vec::new(alloc);
     let mut block = [0; BLOCK];
