@@ -26,7 +26,8 @@ impl Calls {
     // Makes the next call, and says whether it fails.
     pub(crate) fn next_fails(&mut self) -> bool
         ensures failing { IsTrue result ↔ FailsNext (call_state self.old) }
-        ensures after { call_state self.new ≡ (if result then after_fault (call_state self.old) else after_call (call_state self.old)) }
+        ensures after { let old = call_state self.old in
+            call_state self.new ≡ (if result then after_fault old else after_call old) }
     {
         let is_failing = self.fails.contains(&self.number.value());
         self.number.rise();
@@ -38,7 +39,8 @@ impl Calls {
 
     // The count rises by one.
     pub(crate) fn count_fault(&mut self)
-        ensures { call_state self.new ≡ record (call_state self.old) { faults = next_count self.old.faults.value } }
+        ensures { let old = call_state self.old in
+            call_state self.new ≡ record old { faults = next_count old.faults } }
     {
         self.faults.rise();
     }

@@ -45,15 +45,16 @@ impl<R: Files> Shelf for DirShelf<'_, R> {
 
     ghost counted = { λ shelf. shelf.faults.bounded };
 
-    /// The whole file at this path. `Missing` where the system says that it is not found, `TooLarge` where more than
-    /// `limit` bytes came, `Failed` at any other error of the system. The count rises at each of these, and at
-    /// `NoMemory`.
+    /// The whole file at this path. `Missing` where the system says that it is not found,
+    /// `TooLarge` where more than `limit` bytes came, `Failed` at any other error of the system.
+    /// The count rises at each of these, and at `NoMemory`.
     fn load(&mut self, alloc: Global, name: &str, limit: usize) -> Result<Vec<u8>, LoadError>
         ensures bound { IfOk result (λ v. vec_len v ≤ limit) }
         ensures answer { LoadMeetsTold not_told name.now limit result }
         ensures same { not_told ≡ not_told }
         ensures later { dir_faults self.old ≤ dir_faults self.new }
-        ensures failed { IsErrOf result LoadError.Failed → Rose (dir_faults self.old) (dir_faults self.new) }
+        ensures failed { IsErrOf result LoadError.Failed
+            → Rose (dir_faults self.old) (dir_faults self.new) }
 
         ensures count { CountsFailures (dir_faults self.old) (dir_faults self.new) result }
     {
@@ -81,13 +82,16 @@ fn read_file<R: Files>(
     }
 }
 
-// All bytes of a reader, of which it takes few more than the limit: it may have no end. What the reader has left is
-// known where it tells that.
+// All bytes of a reader. It takes few more than the limit of them, since there may be no end.
 fn read_within<R: Read>(reader: &mut R, alloc: Global, limit: usize) -> Result<Vec<u8>, LoadError>
     ensures bound { IfOk result (λ v. vec_len v ≤ limit) }
-    ensures whole { IfOk result (λ v. Consumes (R.remaining reader.old) (R.remaining reader.new) v.items) }
+
+    // Where the reader tells its bytes.
+    ensures whole { IfOk result
+        (λ v. Consumes (R.remaining reader.old) (R.remaining reader.new) v.items) }
     ensures end { OnOk result (IsAtEnd (R.remaining reader.new)) }
-    ensures too_large { IsErrOf result LoadError.TooLarge → IfSome (R.remaining reader.old) (λ bytes. limit < length bytes) }
+    ensures too_large { IsErrOf result LoadError.TooLarge
+        → IfSome (R.remaining reader.old) (λ bytes. limit < length bytes) }
 {
     let mut bytes = Vec::new(alloc);
     let mut block = [0; BLOCK];

@@ -1,11 +1,18 @@
 //! Where bytes come from and go to.
 //!
-//! Three traits stand for the outside. A [`Source`] gives bytes, a [`Sink`] takes bytes, and a [`Shelf`] holds
-//! files by their names. Each counts its faults: an answer that blames the object comes only where that count
-//! rose in the call. Each may tell its content to contracts: the bytes that are left, the bytes that were
-//! written, the files. Clauses on content hold where it is told, clauses on counts hold always.
+//! Three traits stand for the outside. A [`Source`] gives bytes, a [`Sink`] takes bytes, and a
+//! [`Shelf`] holds files by their names. Each counts its faults: an answer that blames the object
+//! comes only where that count rose in the call. Each may tell its content to contracts: the bytes
+//! that are left, the bytes that were written, the files. Clauses on content hold where it is told,
+//! clauses on counts hold always.
 //!
-//! [`take_exact`] and [`put_all`] move a whole buffer, however small the pieces are in which an object moves it.
+//! [`take_exact`] and [`put_all`] move a whole buffer, however small the pieces are in which an
+//! object moves it.
+//!
+//! In memory, [`MemSource`], [`MemSink`] and [`MemShelf`] fail at the calls that they are told to
+//! fail at; [`SureSource`] and [`SureShelf`] never fail. They tell their content. [`StdSource`],
+//! [`StdSink`] and [`DirShelf`] stand at the edge, over readers and writers of std and the system's
+//! files. They tell none, so what the system reads and writes there is trusted.
 #![tactic(auto)]
 
 mod calls;

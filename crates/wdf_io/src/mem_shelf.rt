@@ -15,11 +15,12 @@ impl MemShelf {
     ghost use Rattle.wdf_io.specs.MemShelf.{shelf_state};
     ghost use Rattle.wdf_io.specs.SureShelf.{files_of};
 
-    /// A shelf of these files, each a name and its bytes. Where a name comes twice, its first pair counts. The
-    /// calls whose numbers stand in `fails` fail; calls are numbered from 0 on, and calls past number 2^64 - 1
-    /// have that number.
+    /// A shelf of these files, each a name and its bytes. Where a name comes twice, its first pair
+    /// counts. The calls whose numbers stand in `fails` fail; calls are numbered from 0 on, and
+    /// calls past number 2^64 - 1 have that number.
     pub fn new(files: Vec<(String, Vec<u8>)>, fails: Vec<u64>) -> Self
-        ensures { shelf_state result ≡ record { files = files_of files.items; calls = no_calls fails.items } }
+        ensures { shelf_state result
+            ≡ record { files = files_of files.items; calls = no_calls fails.items } }
     {
         MemShelf {
             inner: SureShelf::new(files),
@@ -47,7 +48,8 @@ impl Shelf for MemShelf {
         ensures answer { LoadMeets (shelf_state self.old).files name.now limit result }
         ensures same { (shelf_state self.new).files ≡ (shelf_state self.old).files }
         ensures later { (shelf_state self.old).calls.faults ≤ (shelf_state self.new).calls.faults }
-        ensures failed { IsErrOf result LoadError.Failed → Rose (shelf_state self.old).calls.faults (shelf_state self.new).calls.faults }
+        ensures failed { IsErrOf result LoadError.Failed
+            → Rose (shelf_state self.old).calls.faults (shelf_state self.new).calls.faults }
 
         ensures failing { IsErrOf result LoadError.Failed ↔ FailsNext (shelf_state self.old).calls }
         ensures after { shelf_state self.new ≡ after_load (shelf_state self.old) result }

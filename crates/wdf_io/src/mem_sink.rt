@@ -20,15 +20,17 @@ impl MemSink {
     ghost use Rattle.wdf_io.specs.Calls.{no_calls};
     ghost use Rattle.wdf_io.specs.MemSink.{sink_state};
 
-    /// A sink that takes `room` bytes in all and at most `piece` in a call. The calls whose numbers stand in
-    /// `fails` fail; calls are numbered from 0 on, and calls past number 2^64 - 1 have that number.
+    /// A sink that takes `room` bytes in all and at most `piece` in a call. The calls whose numbers
+    /// stand in `fails` fail; calls are numbered from 0 on, and calls past number 2^64 - 1 have
+    /// that number.
     ///
     /// # Errors
     ///
     /// `NoMemory` where there is no memory for the room. No later call takes memory.
     pub fn new(alloc: Global, fails: Vec<u64>, piece: usize, room: usize) -> Result<Self, NoMemory>
         requires { 1 ≤ piece }
-        ensures { IfOk result (λ sink. sink_state sink ≡ record { written = []; piece = piece; room = room; calls = no_calls fails.items }) }
+        ensures { IfOk result (λ sink. sink_state sink
+            ≡ record { written = []; piece = piece; room = room; calls = no_calls fails.items }) }
     {
         Ok(MemSink {
             bytes: Vec::with_capacity(alloc, room)?,
@@ -60,15 +62,19 @@ impl Sink for MemSink {
 
     ghost counted = { λ sink. sink.calls.faults.bounded };
 
-    /// Fails exactly at the calls whose numbers were given. Any other call takes the least of the sink's piece,
-    /// the length of `piece` and the room left; where that is 0 and `piece` is not empty, the count rises.
+    /// Fails exactly at the calls whose numbers were given. Any other call takes the least of the
+    /// sink's piece, the length of `piece` and the room left; where that is 0 and `piece` is not
+    /// empty, the count rises.
     fn write(&mut self, piece: &[u8]) -> Result<usize, Failed>
         ensures bound { WritesAtMost result piece.now }
-        ensures bytes { WriteAppends (Some (sink_state self.old).written) (Some (sink_state self.new).written) result piece.now }
-        ensures cause { WriteHasCause (sink_state self.old).calls.faults (sink_state self.new).calls.faults result piece.now }
+        ensures bytes { let old = sink_state self.old in let new = sink_state self.new in
+            WriteAppends (Some old.written) (Some new.written) result piece.now }
+        ensures cause { let old = sink_state self.old in let new = sink_state self.new in
+            WriteHasCause old.calls.faults new.calls.faults result piece.now }
 
         ensures failing { IsErr result ↔ FailsNext (sink_state self.old).calls }
-        ensures count { let s = sink_state self.old in IfOk result (λ n. n ≡ min s.piece (min (length piece.now) s.room)) }
+        ensures count { let old = sink_state self.old in
+            IfOk result (λ n. n ≡ min old.piece (min (length piece.now) old.room)) }
         ensures after { sink_state self.new ≡ after_write (sink_state self.old) result piece.now }
     {
         if self.calls.next_fails() {

@@ -17,11 +17,12 @@ impl MemSource {
     ghost use Rattle.wdf_io.specs.Calls.{no_calls};
     ghost use Rattle.wdf_io.specs.MemSource.{source_state};
 
-    /// A source that gives these bytes, at most `piece` in a call. The calls whose numbers stand in `fails` fail;
-    /// calls are numbered from 0 on, and calls past number 2^64 - 1 have that number.
+    /// A source that gives these bytes, at most `piece` in a call. The calls whose numbers stand in
+    /// `fails` fail; calls are numbered from 0 on, and calls past number 2^64 - 1 have that number.
     pub fn new(bytes: Vec<u8>, fails: Vec<u64>, piece: usize) -> Self
         requires { 1 ≤ piece }
-        ensures { source_state result ≡ record { left = bytes.items; piece = piece; calls = no_calls fails.items } }
+        ensures { source_state result
+            ≡ record { left = bytes.items; piece = piece; calls = no_calls fails.items } }
     {
         MemSource {
             inner: SureSource::new(bytes),
@@ -45,15 +46,18 @@ impl Source for MemSource {
 
     ghost counted = { λ source. source.calls.faults.bounded };
 
-    /// Fails exactly at the calls whose numbers were given. Any other call gives the least of the piece, the
-    /// buffer's length and the number of bytes left.
+    /// Fails exactly at the calls whose numbers were given. Any other call gives the least of the
+    /// piece, the buffer's length and the number of bytes left.
     fn read(&mut self, buf: &mut [u8]) -> Result<usize, Failed>
         ensures bound { ReadsAtMost result buf.new }
-        ensures bytes { ReadConsumes (Some (source_state self.old).left) (Some (source_state self.new).left) result buf.new }
-        ensures cause { HasCause (source_state self.old).calls.faults (source_state self.new).calls.faults result }
+        ensures bytes { let old = source_state self.old in let new = source_state self.new in
+            ReadConsumes (Some old.left) (Some new.left) result buf.new }
+        ensures cause { let old = source_state self.old in let new = source_state self.new in
+            HasCause old.calls.faults new.calls.faults result }
 
         ensures failing { IsErr result ↔ FailsNext (source_state self.old).calls }
-        ensures count { let s = source_state self.old in IfOk result (λ n. n ≡ min s.piece (min (length buf.old) (length s.left))) }
+        ensures count { let old = source_state self.old in
+            IfOk result (λ n. n ≡ min old.piece (min (length buf.old) (length old.left))) }
         ensures after { source_state self.new ≡ after_read (source_state self.old) result }
     {
         if self.calls.next_fails() {

@@ -18,15 +18,16 @@ pub trait Shelf {
     ///
     /// # Errors
     ///
-    /// `Failed` only where the count of faults rose; it stands before the others. Else, by the told files:
-    /// `Missing` exactly where there is no file of this name, `TooLarge` exactly where it holds more than
-    /// `limit` bytes. `NoMemory` where there is no memory for the bytes.
+    /// `Failed` only where the count of faults rose; it stands before the others. Else, by the told
+    /// files: `Missing` exactly where there is no file of this name, `TooLarge` exactly where it
+    /// holds more than `limit` bytes. `NoMemory` where there is no memory for the bytes.
     fn load(&mut self, alloc: Global, name: &str, limit: usize) -> Result<Vec<u8>, LoadError>
         ensures bound { IfOk result (λ v. vec_len v ≤ limit) }
         ensures answer { LoadMeetsTold (files self.old) name.now limit result }
         ensures same { files self.new ≡ files self.old }
         ensures later { faults self.old ≤ faults self.new }
-        ensures failed { IsErrOf result LoadError.Failed → Rose (faults self.old) (faults self.new) };
+        ensures failed { IsErrOf result LoadError.Failed
+            → Rose (faults self.old) (faults self.new) };
 
     /// The count is a number of 64 bits.
     ghost counted: { (shelf : Self) → faults shelf < 2 ^ 64 };

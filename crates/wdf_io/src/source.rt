@@ -14,8 +14,8 @@ pub trait Source {
     /// How often the source has failed. The count stands still at 2^64 - 1.
     ghost faults: { Self → ℕ };
 
-    /// Reads some bytes into the front of `buf`, and says how many. They are the first of those that are left.
-    /// Nothing is said of the rest of `buf`.
+    /// Reads some bytes into the front of `buf`, and says how many. They are the first of those
+    /// that are left. Nothing is said of the rest of `buf`.
     ///
     /// `Ok(0)` on a buffer that is not empty is the end of the input.
     ///

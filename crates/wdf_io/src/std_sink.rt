@@ -42,15 +42,17 @@ impl<W: Write> Sink for StdSink<W> {
 
     ghost counted = { λ sink. sink.faults.bounded };
 
-    /// Writes once to the writer, and flushes it. `Failed`, and a larger count, where either answers an error, or
-    /// where the writer takes nothing of a piece that is not empty.
+    /// Writes once to the writer, and flushes it. `Failed`, and the count rises, where either
+    /// answers an error, or where the writer takes nothing of a piece that is not empty.
     fn write(&mut self, piece: &[u8]) -> Result<usize, Failed>
         ensures bound { WritesAtMost result piece.now }
         ensures bytes { WriteAppends None None result piece.now }
-        ensures cause { WriteHasCause (sink_faults self.old) (sink_faults self.new) result piece.now }
+        ensures cause { WriteHasCause (sink_faults self.old) (sink_faults self.new)
+            result piece.now }
 
-        // The sink tells no bytes, but where the writer does, they are those.
-        ensures writer { IfOk result (λ n. Appends (W.contents (sink_writer self.old)) (W.contents (sink_writer self.new)) (take n piece.now)) }
+        // The sink tells no bytes, but where the writer does, it gets these.
+        ensures writer { let old = sink_writer self.old in let new = sink_writer self.new in
+            IfOk result (λ n. Appends (W.contents old) (W.contents new) (take n piece.now)) }
         ensures count { CountsFailures (sink_faults self.old) (sink_faults self.new) result }
     {
         match write_through(&mut self.inner, piece) {
@@ -66,7 +68,8 @@ impl<W: Write> Sink for StdSink<W> {
 // Writes once, and flushes what was taken.
 fn write_through<W: Write>(writer: &mut W, piece: &[u8]) -> io::Result<usize>
     ensures bound { WritesAtMost result piece.now }
-    ensures bytes { IfOk result (λ n. Appends (W.contents writer.old) (W.contents writer.new) (take n piece.now)) }
+    ensures bytes { IfOk result
+        (λ n. Appends (W.contents writer.old) (W.contents writer.new) (take n piece.now)) }
 {
     let count = writer.write(piece)?;
     writer.flush()?;

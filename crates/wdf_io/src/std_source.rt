@@ -38,14 +38,16 @@ impl<R: Read> Source for StdSource<R> {
 
     ghost counted = { λ source. source.faults.bounded };
 
-    /// Reads once from the reader. `Failed`, and a larger count, where the reader answers an error.
+    /// Reads once from the reader. `Failed`, and the count rises, where the reader answers an
+    /// error.
     fn read(&mut self, buf: &mut [u8]) -> Result<usize, Failed>
         ensures bound { ReadsAtMost result buf.new }
         ensures bytes { ReadConsumes None None result buf.new }
         ensures cause { HasCause (source_faults self.old) (source_faults self.new) result }
 
-        // The source tells no bytes, but where the reader does, they are those.
-        ensures reader { ReadConsumes (R.remaining (source_reader self.old)) (R.remaining (source_reader self.new)) result buf.new }
+        // The source tells no bytes, but where the reader does, it gives these.
+        ensures reader { let old = source_reader self.old in let new = source_reader self.new in
+            ReadConsumes (R.remaining old) (R.remaining new) result buf.new }
         ensures count { CountsFailures (source_faults self.old) (source_faults self.new) result }
     {
         match self.inner.read(buf) {

@@ -11,7 +11,8 @@ impl SureShelf {
     ghost use Rattle.std.specs.Prelude.{◌≡◌};
     ghost use Rattle.wdf_io.specs.SureShelf.{files_of, sure_files};
 
-    /// A shelf of these files, each a name and its bytes. Where a name comes twice, its first pair counts.
+    /// A shelf of these files, each a name and its bytes. Where a name comes twice, its first pair
+    /// counts.
     pub fn new(files: Vec<(String, Vec<u8>)>) -> Self
         ensures { sure_files result ≡ files_of files.items }
     {

@@ -39,7 +39,8 @@ impl Source for SureSource {
     /// Gives the lesser of the buffer's length and the number of bytes left. It never fails.
     fn read(&mut self, buf: &mut [u8]) -> Result<usize, Failed>
         ensures bound { ReadsAtMost result buf.new }
-        ensures bytes { ReadConsumes (Some (sure_left self.old)) (Some (sure_left self.new)) result buf.new }
+        ensures bytes { ReadConsumes (Some (sure_left self.old)) (Some (sure_left self.new))
+            result buf.new }
         ensures cause { HasCause 0 0 result }
 
         ensures sure { IsOk result }
