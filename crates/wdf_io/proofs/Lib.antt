@@ -1,0 +1,2 @@
+mod FilledLemmas
+mod ServedLemmas

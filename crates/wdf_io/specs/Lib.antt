@@ -1,0 +1,12 @@
+pub mod Calls
+pub mod Causes
+pub mod DirShelf
+pub mod Files
+pub mod MemShelf
+pub mod MemSink
+pub mod MemSource
+pub mod Moved
+pub mod StdSink
+pub mod StdSource
+pub mod SureShelf
+pub mod SureSource
