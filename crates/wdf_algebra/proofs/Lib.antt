@@ -1,5 +1,7 @@
-pub mod RingLaws
-pub mod Polynomials
-pub mod Truncations
 pub mod Cancelling
+pub mod ParallelJunction
+pub mod Polynomials
+pub mod RingLaws
 pub mod RootJunction
+pub mod SeriesJunction
+pub mod Truncations
