@@ -1,2 +1,3 @@
+pub mod FrameBlock
 pub mod Header
 pub mod SampleCoding
