@@ -26,6 +26,8 @@ mod head;
 mod header;
 pub mod laws;
 mod sample;
+#[cfg(test)]
+mod tests;
 
 pub use crate::block::read_block;
 pub use crate::head::Head;
