@@ -1,0 +1,4 @@
+mod FrameBlockLemmas
+mod HeaderLemmas
+mod PcmStreamLemmas
+mod SampleLemmas

@@ -1,0 +1,5 @@
+pub mod FrameBlock
+pub mod Header
+pub mod Laws
+pub mod PcmStream
+pub mod SampleCoding

@@ -1,0 +1,30 @@
+-- A wave as a stream of bytes, and the samples that its data holds.
+use Rattle.std.specs.Prelude.{◌≡◌, ℕ, zero, suc, ◌+◌, ◌*◌, ◌/◌, List, [], ◌∷◌, ◌++◌, length, map, take, drop, slice_index_or, ℤ, pos, flat_map}
+use Rattle.wdf_wav.specs.declared.head.Head.{Head}
+use Rattle.wdf_wav.specs.Header.{IsPcmHead, data_size, head_bytes_of}
+use Rattle.wdf_wav.specs.SampleCoding.{sample_coding, sample_value}
+
+-- bytes are the header of head, then body, the bytes of all its frames, then rest
+pub record IsPcmStream (bytes : List ℕ) (head : Head) (body rest : List ℕ) : Type 0 where
+  pub valid : IsPcmHead head
+  pub parts : bytes ≡ head_bytes_of head ++ body ++ rest
+  pub size : length body ≡ data_size head
+
+-- the first `count` pieces of xs, each of `size` elements
+abbrev pub pieces : {X : Type 0} → ℕ → ℕ → List X → List (List X)
+pieces zero size xs = []
+pieces (suc count) size xs = take size xs ∷ pieces count size (drop size xs)
+
+-- the samples of body, one in each bits / 8 bytes:
+-- frame after frame, and in each frame channel after channel
+abbrev pub samples_of : ℕ → List ℕ → List ℤ
+samples_of bits body = map (sample_value bits) (pieces (length body / (bits / 8)) (bits / 8) body)
+
+-- the sample of one channel in one frame of body, both counted from 0
+abbrev pub sample_at : Head → List ℕ → ℕ → ℕ → ℤ
+sample_at head body frame channel =
+    slice_index_or (samples_of head.bits body) (frame * head.channels + channel) (pos 0)
+
+-- the bytes of samples, one after another
+abbrev pub data_of : ℕ → List ℤ → List ℕ
+data_of bits samples = flat_map (sample_coding bits) samples
