@@ -29,7 +29,7 @@ parallel_voltage q m n u1 u2 d u =
 -- the values meet the equation of the currents
 pub parallel_currents : (q m n g1 g2 g : ℕ) (u1 u2 d : ℤ) → g ≡ g1 + g2 → q * g1 ≡ m * g → q * g2 ≡ n * g
     → pos g1 *ℤ (parallel_part q m n u1 u2 d u1 -ℤ pos q *ℤ u1) +ℤ pos g2 *ℤ (parallel_part q m n u1 u2 d u2 -ℤ pos q *ℤ u2)
-        ≡ pos g *ℤ (pos q *ℤ d -ℤ parallel_value m n u1 u2)
+    ≡ pos g *ℤ (pos q *ℤ d -ℤ parallel_value m n u1 u2)
 parallel_currents q m n g1 g2 g u1 u2 d sum first second =
     let Q = var 0 in
     let M = var 1 in
@@ -47,9 +47,9 @@ parallel_currents q m n g1 g2 g u1 u2 d sum first second =
     (G1 ⊗ ((V ⊖ Q ⊗ U1) ⊖ Q ⊗ U1) ⊕ G2 ⊗ ((V ⊖ Q ⊗ U2) ⊖ Q ⊗ U2))
     (G ⊗ (Q ⊗ D ⊖ B))
     (record { by = con (pos 0) ⊖ V; left = G; right = G1 ⊕ G2 }
-     ∷ record { by = minus_two ⊗ U1; left = Q ⊗ G1; right = M ⊗ G }
-     ∷ record { by = minus_two ⊗ U2; left = Q ⊗ G2; right = N ⊗ G }
-     ∷ [])
+    ∷ record { by = minus_two ⊗ U1; left = Q ⊗ G1; right = M ⊗ G }
+    ∷ record { by = minus_two ⊗ U2; left = Q ⊗ G2; right = N ⊗ G }
+    ∷ [])
     (ap pos sum, (ap pos first, (ap pos second, tt)))
     refl
 
@@ -80,12 +80,12 @@ parallel_only q m n g1 g2 g u1 u2 d b1 b2 b some sum first second voltage1 volta
     (G ⊗ (two ⊗ B))
     (G ⊗ (two ⊗ (M ⊗ U1 ⊕ N ⊗ U2)))
     (record { by = con (pos 1); left = G1 ⊗ (B1 ⊖ Q ⊗ U1) ⊕ G2 ⊗ (B2 ⊖ Q ⊗ U2); right = G ⊗ (Q ⊗ D ⊖ B) }
-     ∷ record { by = none ⊖ G1; left = Q ⊗ U1 ⊕ B1; right = V }
-     ∷ record { by = none ⊖ G2; left = Q ⊗ U2 ⊕ B2; right = V }
-     ∷ record { by = V; left = G; right = G1 ⊕ G2 }
-     ∷ record { by = two ⊗ U1; left = Q ⊗ G1; right = M ⊗ G }
-     ∷ record { by = two ⊗ U2; left = Q ⊗ G2; right = N ⊗ G }
-     ∷ [])
+    ∷ record { by = none ⊖ G1; left = Q ⊗ U1 ⊕ B1; right = V }
+    ∷ record { by = none ⊖ G2; left = Q ⊗ U2 ⊕ B2; right = V }
+    ∷ record { by = V; left = G; right = G1 ⊕ G2 }
+    ∷ record { by = two ⊗ U1; left = Q ⊗ G1; right = M ⊗ G }
+    ∷ record { by = two ⊗ U2; left = Q ⊗ G2; right = N ⊗ G }
+    ∷ [])
     (currents, (voltage1, (voltage2, (ap pos sum, (ap pos first, (ap pos second, tt))))))
     refl))
 
@@ -102,7 +102,7 @@ pub parallel_energy : (q g1 g2 g : ℕ) (u1 u2 d b1 b2 b : ℤ)
     → pos q *ℤ u2 +ℤ b2 ≡ pos q *ℤ d +ℤ b
     → pos g1 *ℤ (b1 -ℤ pos q *ℤ u1) +ℤ pos g2 *ℤ (b2 -ℤ pos q *ℤ u2) ≡ pos g *ℤ (pos q *ℤ d -ℤ b)
     → pos g1 *ℤ (b1 *ℤ b1) +ℤ pos g2 *ℤ (b2 *ℤ b2) +ℤ pos g *ℤ (b *ℤ b)
-        ≡ pos q *ℤ pos q *ℤ (pos g1 *ℤ (u1 *ℤ u1) +ℤ pos g2 *ℤ (u2 *ℤ u2) +ℤ pos g *ℤ (d *ℤ d))
+    ≡ pos q *ℤ pos q *ℤ (pos g1 *ℤ (u1 *ℤ u1) +ℤ pos g2 *ℤ (u2 *ℤ u2) +ℤ pos g *ℤ (d *ℤ d))
 parallel_energy q g1 g2 g u1 u2 d b1 b2 b voltage1 voltage2 currents =
     let Q = var 0 in
     let G1 = var 1 in
@@ -121,8 +121,8 @@ parallel_energy q g1 g2 g u1 u2 d b1 b2 b voltage1 voltage2 currents =
     (G1 ⊗ (B1 ⊗ B1) ⊕ G2 ⊗ (B2 ⊗ B2) ⊕ G ⊗ (B ⊗ B))
     (Q ⊗ Q ⊗ (G1 ⊗ (U1 ⊗ U1) ⊕ G2 ⊗ (U2 ⊗ U2) ⊕ G ⊗ (D ⊗ D)))
     (record { by = J1; left = Q ⊗ U1 ⊕ B1; right = V }
-     ∷ record { by = J2; left = Q ⊗ U2 ⊕ B2; right = V }
-     ∷ record { by = V; left = J1 ⊕ J2; right = G ⊗ (Q ⊗ D ⊖ B) }
-     ∷ [])
+    ∷ record { by = J2; left = Q ⊗ U2 ⊕ B2; right = V }
+    ∷ record { by = V; left = J1 ⊕ J2; right = G ⊗ (Q ⊗ D ⊖ B) }
+    ∷ [])
     (voltage1, (voltage2, (currents, tt)))
     refl

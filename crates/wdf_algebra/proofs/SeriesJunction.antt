@@ -68,8 +68,8 @@ scaled_part q m g1 g u d b1 b some same current =
     (G1 ⊗ (Q ⊗ (B1 ⊖ Q ⊗ U)))
     (G1 ⊗ (M ⊗ (Q ⊗ D ⊖ B)))
     (record { by = Q; left = G1 ⊗ (B1 ⊖ Q ⊗ U); right = G ⊗ (Q ⊗ D ⊖ B) }
-     ∷ record { by = Q ⊗ D ⊖ B; left = Q ⊗ G; right = M ⊗ G1 }
-     ∷ [])
+    ∷ record { by = Q ⊗ D ⊖ B; left = Q ⊗ G; right = M ⊗ G1 }
+    ∷ [])
     (current, (ap pos same, tt))
     refl)
 
@@ -98,10 +98,10 @@ series_only q m n g1 g2 g u1 u2 d b1 b2 b unit some1 some2 whole first second cu
     (Q ⊗ (two ⊗ B))
     (Q ⊗ (two ⊗ (Q ⊗ (U1 ⊕ U2))))
     (record { by = con (pos 1); left = Q ⊗ (B1 ⊖ Q ⊗ U1); right = M ⊗ (Q ⊗ D ⊖ B) }
-     ∷ record { by = con (pos 1); left = Q ⊗ (B2 ⊖ Q ⊗ U2); right = N ⊗ (Q ⊗ D ⊖ B) }
-     ∷ record { by = Q ⊗ D ⊖ B; left = M ⊕ N; right = Q }
-     ∷ record { by = Q; left = Q ⊗ D ⊕ B; right = (Q ⊗ U1 ⊕ B1) ⊕ (Q ⊗ U2 ⊕ B2) }
-     ∷ [])
+    ∷ record { by = con (pos 1); left = Q ⊗ (B2 ⊖ Q ⊗ U2); right = N ⊗ (Q ⊗ D ⊖ B) }
+    ∷ record { by = Q ⊗ D ⊖ B; left = M ⊕ N; right = Q }
+    ∷ record { by = Q; left = Q ⊗ D ⊕ B; right = (Q ⊗ U1 ⊕ B1) ⊕ (Q ⊗ U2 ⊕ B2) }
+    ∷ [])
     (part1, (part2, (ap pos whole, (voltages, tt))))
     refl))
 
@@ -124,8 +124,8 @@ series_part_only q m g1 g u1 u2 d u b1 b unit some same current value =
     (Q ⊗ B1)
     (Q ⊗ (Q ⊗ U ⊕ M ⊗ (D ⊖ (U1 ⊕ U2))))
     (record { by = con (pos 1); left = Q ⊗ (B1 ⊖ Q ⊗ U); right = M ⊗ (Q ⊗ D ⊖ B) }
-     ∷ record { by = con (pos 0) ⊖ M; left = B; right = Q ⊗ (U1 ⊕ U2) }
-     ∷ [])
+    ∷ record { by = con (pos 0) ⊖ M; left = B; right = Q ⊗ (U1 ⊕ U2) }
+    ∷ [])
     (part, (value, tt))
     refl)
 
@@ -135,7 +135,7 @@ pub series_energy : (q g1 g2 g : ℕ) (u1 u2 d b1 b2 b : ℤ)
     → pos g2 *ℤ (b2 -ℤ pos q *ℤ u2) ≡ pos g *ℤ (pos q *ℤ d -ℤ b)
     → pos q *ℤ d +ℤ b ≡ (pos q *ℤ u1 +ℤ b1) +ℤ (pos q *ℤ u2 +ℤ b2)
     → pos g1 *ℤ (b1 *ℤ b1) +ℤ pos g2 *ℤ (b2 *ℤ b2) +ℤ pos g *ℤ (b *ℤ b)
-        ≡ pos q *ℤ pos q *ℤ (pos g1 *ℤ (u1 *ℤ u1) +ℤ pos g2 *ℤ (u2 *ℤ u2) +ℤ pos g *ℤ (d *ℤ d))
+    ≡ pos q *ℤ pos q *ℤ (pos g1 *ℤ (u1 *ℤ u1) +ℤ pos g2 *ℤ (u2 *ℤ u2) +ℤ pos g *ℤ (d *ℤ d))
 series_energy q g1 g2 g u1 u2 d b1 b2 b current1 current2 voltages =
     let Q = var 0 in
     let G1 = var 1 in
@@ -154,8 +154,8 @@ series_energy q g1 g2 g u1 u2 d b1 b2 b current1 current2 voltages =
     (G1 ⊗ (B1 ⊗ B1) ⊕ G2 ⊗ (B2 ⊗ B2) ⊕ G ⊗ (B ⊗ B))
     (Q ⊗ Q ⊗ (G1 ⊗ (U1 ⊗ U1) ⊕ G2 ⊗ (U2 ⊗ U2) ⊕ G ⊗ (D ⊗ D)))
     (record { by = V1; left = G1 ⊗ (B1 ⊖ Q ⊗ U1); right = J }
-     ∷ record { by = V2; left = G2 ⊗ (B2 ⊖ Q ⊗ U2); right = J }
-     ∷ record { by = con (pos 0) ⊖ J; left = Q ⊗ D ⊕ B; right = V1 ⊕ V2 }
-     ∷ [])
+    ∷ record { by = V2; left = G2 ⊗ (B2 ⊖ Q ⊗ U2); right = J }
+    ∷ record { by = con (pos 0) ⊖ J; left = Q ⊗ D ⊕ B; right = V1 ⊕ V2 }
+    ∷ [])
     (current1, (current2, (voltages, tt)))
     refl

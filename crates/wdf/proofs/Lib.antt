@@ -1,0 +1,13 @@
+pub mod AnswerLemmas
+pub mod CompleteLemmas
+pub mod DecimalLemmas
+pub mod EqualBytes
+pub mod FrameLemmas
+pub mod FrontLemmas
+pub mod HeadLemmas
+pub mod LineLemmas
+pub mod OrderLemmas
+pub mod StandsLemmas
+pub mod TwoLeaves
+pub mod WaveLemmas
+pub mod WordLemmas
