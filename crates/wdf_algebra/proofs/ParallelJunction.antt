@@ -1,10 +1,10 @@
 -- The parallel junction, from its equations as premises: with V = q·u + B and J = g·(B - q·u) at each of its parts,
 -- V1 = V2 = q·d + B and J1 + J2 = g·(q·d - B). Here g = g1 + g2, q·g1 = m·g and q·g2 = n·g.
-use Rattle.std.proofs.Common.{◌≡◌, ℕ, ◌+◌, ◌*◌, ◌<◌, List, [], ◌∷◌, refl, ap, sym, ◌∙◌, arith}
+use Rattle.std.proofs.Common.{◌≡◌, ℕ, ◌+◌, ◌*◌, ◌<◌, [], ◌∷◌, refl, ap, ◌∙◌, arith}
 use lib.IntN.{ℤ, pos, ◌+ℤ◌, ◌-ℤ◌, ◌*ℤ◌}
 use Rattle.wdf_algebra.proofs.RingLaws.{linear}
 use Rattle.wdf_algebra.proofs.Cancelling.{cancel}
-use Rattle.wdf_algebra.proofs.Polynomials.{con, var, ◌⊕◌, ◌⊖◌, ◌⊗◌, Fact, ring, linear_combination}
+use Rattle.wdf_algebra.proofs.Polynomials.{con, var, ◌⊕◌, ◌⊖◌, ◌⊗◌, ring, linear_combination}
 
 -- the value to the junction's own port, and to the part whose wave is u
 abbrev pub parallel_value : (m n : ℕ) (u1 u2 : ℤ) → ℤ

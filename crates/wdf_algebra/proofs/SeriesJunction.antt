@@ -1,9 +1,9 @@
 -- The series junction, from its equations as premises: with J = g·(q·d - B) and V = q·d + B at its own port,
 -- g1·(B1 - q·u1) = g2·(B2 - q·u2) = J and V = V1 + V2. Here q·g = m·g1, q·g = n·g2 and m + n = q.
-use Rattle.std.proofs.Common.{◌≡◌, ℕ, ◌+◌, ◌*◌, ◌<◌, List, [], ◌∷◌, refl, ap, sym, ◌∙◌, arith}
+use Rattle.std.proofs.Common.{◌≡◌, ℕ, ◌+◌, ◌*◌, ◌<◌, [], ◌∷◌, refl, ap, arith}
 use lib.IntN.{ℤ, pos, ◌+ℤ◌, ◌-ℤ◌, ◌*ℤ◌}
 use Rattle.wdf_algebra.proofs.Cancelling.{cancel}
-use Rattle.wdf_algebra.proofs.Polynomials.{con, var, ◌⊕◌, ◌⊖◌, ◌⊗◌, Fact, ring, linear_combination}
+use Rattle.wdf_algebra.proofs.Polynomials.{con, var, ◌⊕◌, ◌⊖◌, ◌⊗◌, linear_combination}
 
 -- the value to the junction's own port, and to the part whose wave is u and whose multiplier is m
 abbrev pub series_value : (q : ℕ) (u1 u2 : ℤ) → ℤ

@@ -1,5 +1,5 @@
 -- How many leaves a network has, and how large its multiplier is at the root.
-use Rattle.std.proofs.Common.{◌<◌, ◌^◌, ◌∷◌, map, ◌≡◌, ◌+◌, ◌++◌, length, length-append}
+use Rattle.std.proofs.Common.{◌<◌, ◌^◌, map, ◌≡◌, ◌+◌, ◌++◌, length, length-append}
 use Rattle.std.proofs.Common.{ℕ, ◌≤◌}
 use Rattle.std.proofs.lemmas.List.Elements.{All-head}
 use Rattle.wdf_law.specs.Trees.{Plain, elements_of}

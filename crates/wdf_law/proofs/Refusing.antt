@@ -1,5 +1,5 @@
 -- The first rule that is broken is the only refusal, and a refusal says which rule it is.
-use Rattle.std.proofs.Common.{◌≡◌, ℕ, Bool, true, false, Option, None, Some, List, [], ◌∷◌, length, Result, Err, refl, ap, sym, ◌∙◌, subst}
+use Rattle.std.proofs.Common.{◌≡◌, ℕ, Bool, true, false, Option, None, Some, List, [], ◌∷◌, length, Result, Err, refl, ap, subst}
 use Rattle.std.specs.Prelude.{◌↔◌}
 use Rattle.std.specs.Option.{option_or, option_map}
 use Rattle.wdf_law.specs.declared.net_error.NetError.{NetError}

@@ -1,12 +1,15 @@
 pub mod Conductance
 pub mod Elements
+pub mod Energy
 pub mod Junction
+pub mod Laws
 pub mod Marks
 pub mod Network
 pub mod NetworkCode
 pub mod OutputRule
 pub mod Refusal
 pub mod Run
+pub mod Solved
 pub mod Step
 pub mod Trees
 pub mod WorkedFrames

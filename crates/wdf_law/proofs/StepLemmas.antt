@@ -1,0 +1,169 @@
+-- From every state and for every input there is one step, the solved one.
+use Rattle.std.proofs.Common.{◌≡◌, ℕ, ◌-◌, ◌<◌, refl, ap, sym, ◌∙◌, subst}
+use lib.IntN.{ℤ}
+use Rattle.wdf_algebra.specs.RootValue.{root_value}
+use Rattle.wdf_algebra.specs.Truncation.{trunc}
+use Rattle.wdf_algebra.proofs.ParallelJunction.{parallel_value, parallel_part}
+use Rattle.wdf_algebra.proofs.SeriesJunction.{series_value, series_part}
+use Rattle.wdf_law.specs.Trees.{Plain, leaf, series, parallel}
+use Rattle.wdf_law.specs.Network.{Network, IsNetwork, unit_of}
+use Rattle.wdf_law.specs.Conductance.{conductance, series_first, series_second, parallel_first, parallel_second}
+use Rattle.wdf_law.specs.Junction.{IsParallel, IsSeries, IsRoot}
+use Rattle.wdf_law.specs.Step.{Waves, ends, forks, up, down, Follows, Frame, IsStep}
+use Rattle.wdf_law.specs.Run.{states}
+use Rattle.wdf_law.specs.Energy.{left_factor, right_factor}
+use Rattle.wdf_law.specs.Solved.{ups, waves, solved}
+use Rattle.wdf_law.specs.Laws.{HasOneStep}
+use Rattle.wdf_law.proofs.ConductanceLemmas.{IsSound, HasSoundTrees, sound_trees, conductance-pos, series_first-pos, series_second-pos, parallel_first-pos, parallel_second-pos, left_factor-pos, right_factor-pos, series_law, parallel_law, root_law, whole_of}
+use Rattle.wdf_law.proofs.ElementLemmas.{reflects, reflected-meets}
+use Rattle.wdf_law.proofs.JunctionLemmas.{parallel_solved, parallel_alone, series_solved, series_alone, root_solved, root_alone_first, root_alone_second}
+
+pub up-waves : (q : ℕ) (x e : ℕ → ℤ) (t : Plain) (d : ℤ) → up (waves q x e t d) ≡ ups q x e t
+up-waves q x e (leaf i k flip) d = refl
+up-waves q x e (series m l r) d = refl
+up-waves q x e (parallel m l r) d = refl
+
+pub down-waves : (q : ℕ) (x e : ℕ → ℤ) (t : Plain) (d : ℤ) → down (waves q x e t d) ≡ d
+down-waves q x e (leaf i k flip) d = refl
+down-waves q x e (series m l r) d = refl
+down-waves q x e (parallel m l r) d = refl
+
+-- the solved waves meet every law
+pub follows : (q f : ℕ) (x e : ℕ → ℤ) (t : Plain) (d : ℤ) → 0 < q → 0 < f → IsSound q t → Follows q x e f t (waves q x e t d)
+follows q f x e (leaf i k flip) d unit some s = reflected-meets k flip (x i) (e i) d
+follows q f x e (series m l r) d unit some s =
+    let u1 = ups q x e l in
+    let u2 = ups q x e r in
+    let b1 = series_part q m u1 u2 d u1 in
+    let b2 = series_part q (q - m) u1 u2 d u2 in
+    let wl = waves q x e l (trunc b1 q) in
+    let wr = waves q x e r (trunc b2 q) in
+    let g1 = conductance q (series_first q f m r) l in
+    let g2 = conductance q (series_second q f m l) r in
+    let g = conductance q f (series m l r) in
+    let first = series_first-pos q f m r unit some s.1 s.3 in
+    let second = series_second-pos q f m l unit some s.0 s.2 in
+    let is : IsSeries q g1 g2 g (up wl) (up wr) d b1 b2 (series_value q u1 u2) =
+    subst (λ (v : ℤ). IsSeries q g1 g2 g v (up wr) d b1 b2 (series_value q u1 u2)) (sym (up-waves q x e l (trunc b1 q)))
+    (subst (λ (v : ℤ). IsSeries q g1 g2 g u1 v d b1 b2 (series_value q u1 u2)) (sym (up-waves q x e r (trunc b2 q)))
+    (series_solved q m (q - m) g1 g2 g u1 u2 d (conductance-pos q (series_first q f m r) l unit first s.2) (whole_of q m s.1) (series_law q f m l r s.1))) in (
+      is,
+      record { first = down-waves q x e l (trunc b1 q); second = down-waves q x e r (trunc b2 q); up = refl },
+      follows q (series_first q f m r) x e l (trunc b1 q) unit first s.2,
+      follows q (series_second q f m l) x e r (trunc b2 q) unit second s.3,
+    )
+follows q f x e (parallel m l r) d unit some s =
+    let u1 = ups q x e l in
+    let u2 = ups q x e r in
+    let b1 = parallel_part q m (q - m) u1 u2 d u1 in
+    let b2 = parallel_part q m (q - m) u1 u2 d u2 in
+    let b = parallel_value m (q - m) u1 u2 in
+    let wl = waves q x e l (trunc b1 q) in
+    let wr = waves q x e r (trunc b2 q) in
+    let g1 = conductance q (parallel_first q f m r) l in
+    let g2 = conductance q (parallel_second q f m l) r in
+    let g = conductance q f (parallel m l r) in
+    let first = parallel_first-pos q f m r unit some s.0 s.3 in
+    let second = parallel_second-pos q f m l unit some s.1 s.2 in
+    let is : IsParallel q g1 g2 g (up wl) (up wr) d b1 b2 b =
+    subst (λ (v : ℤ). IsParallel q g1 g2 g v (up wr) d b1 b2 b) (sym (up-waves q x e l (trunc b1 q)))
+    (subst (λ (v : ℤ). IsParallel q g1 g2 g u1 v d b1 b2 b) (sym (up-waves q x e r (trunc b2 q)))
+    (parallel_solved q m (q - m) g1 g2 g u1 u2 d (whole_of q m s.1) (parallel_law q f m l r s.1))) in (
+      is,
+      record { first = down-waves q x e l (trunc b1 q); second = down-waves q x e r (trunc b2 q); up = refl },
+      follows q (parallel_first q f m r) x e l (trunc b1 q) unit first s.2,
+      follows q (parallel_second q f m l) x e r (trunc b2 q) unit second s.3,
+    )
+
+-- waves that meet every law are the solved ones
+pub alone : (q f : ℕ) (x e : ℕ → ℤ) (t : Plain) (w : Waves) → 0 < q → 0 < f → IsSound q t → Follows q x e f t w → w ≡ waves q x e t (down w)
+alone q f x e (leaf i k flip) (ends u d) unit some s h = ap (λ (v : ℤ). ends v d) (reflects k flip (x i) (e i) u d h)
+alone q f x e (leaf i k flip) (forks u d b1 b2 b wl wr) unit some s h = absurd h
+alone q f x e (series m l r) (ends u d) unit some s h = absurd h
+alone q f x e (series m l r) (forks u d b1 b2 b wl wr) unit some s h =
+    let first = series_first-pos q f m r unit some s.1 s.3 in
+    let second = series_second-pos q f m l unit some s.0 s.2 in
+    let left = alone q (series_first q f m r) x e l wl unit first s.2 h.2 in
+    let right = alone q (series_second q f m l) x e r wr unit second s.3 h.3 in
+    let u1 : up wl ≡ ups q x e l = ap up left ∙ up-waves q x e l (down wl) in
+    let u2 : up wr ≡ ups q x e r = ap up right ∙ up-waves q x e r (down wr) in
+    let is = series_alone q m (q - m) (conductance q (series_first q f m r) l) (conductance q (series_second q f m l) r) (conductance q f (series m l r))
+    (up wl) (up wr) d b1 b2 b unit (conductance-pos q (series_first q f m r) l unit first s.2) (conductance-pos q (series_second q f m l) r unit second s.3)
+    (whole_of q m s.1) (series_law q f m l r s.1) h.0 in
+    let e1 : b1 ≡ series_part q m (ups q x e l) (ups q x e r) d (ups q x e l) = is.first ∙ (λ i. series_part q m (u1 i) (u2 i) d (u1 i)) in
+    let e2 : b2 ≡ series_part q (q - m) (ups q x e l) (ups q x e r) d (ups q x e r) = is.second ∙ (λ i. series_part q (q - m) (u1 i) (u2 i) d (u2 i)) in
+    let e0 : b ≡ series_value q (ups q x e l) (ups q x e r) = is.own ∙ (λ i. series_value q (u1 i) (u2 i)) in
+    let own : u ≡ trunc (series_value q (ups q x e l) (ups q x e r)) q = h.1.up ∙ ap (λ (v : ℤ). trunc v q) e0 in
+    let below1 : wl ≡ waves q x e l (trunc (series_part q m (ups q x e l) (ups q x e r) d (ups q x e l)) q) =
+    left ∙ ap (waves q x e l) (h.1.first ∙ ap (λ (v : ℤ). trunc v q) e1) in
+    let below2 : wr ≡ waves q x e r (trunc (series_part q (q - m) (ups q x e l) (ups q x e r) d (ups q x e r)) q) =
+    right ∙ ap (waves q x e r) (h.1.second ∙ ap (λ (v : ℤ). trunc v q) e2) in
+    λ i. forks (own i) d (e1 i) (e2 i) (e0 i) (below1 i) (below2 i)
+alone q f x e (parallel m l r) (ends u d) unit some s h = absurd h
+alone q f x e (parallel m l r) (forks u d b1 b2 b wl wr) unit some s h =
+    let first = parallel_first-pos q f m r unit some s.0 s.3 in
+    let second = parallel_second-pos q f m l unit some s.1 s.2 in
+    let left = alone q (parallel_first q f m r) x e l wl unit first s.2 h.2 in
+    let right = alone q (parallel_second q f m l) x e r wr unit second s.3 h.3 in
+    let u1 : up wl ≡ ups q x e l = ap up left ∙ up-waves q x e l (down wl) in
+    let u2 : up wr ≡ ups q x e r = ap up right ∙ up-waves q x e r (down wr) in
+    let is = parallel_alone q m (q - m) (conductance q (parallel_first q f m r) l) (conductance q (parallel_second q f m l) r) (conductance q f (parallel m l r))
+    (up wl) (up wr) d b1 b2 b (conductance-pos q f (parallel m l r) unit some s) (whole_of q m s.1) (parallel_law q f m l r s.1) h.0 in
+    let e1 : b1 ≡ parallel_part q m (q - m) (ups q x e l) (ups q x e r) d (ups q x e l) = is.first ∙ (λ i. parallel_part q m (q - m) (u1 i) (u2 i) d (u1 i)) in
+    let e2 : b2 ≡ parallel_part q m (q - m) (ups q x e l) (ups q x e r) d (ups q x e r) = is.second ∙ (λ i. parallel_part q m (q - m) (u1 i) (u2 i) d (u2 i)) in
+    let e0 : b ≡ parallel_value m (q - m) (ups q x e l) (ups q x e r) = is.own ∙ (λ i. parallel_value m (q - m) (u1 i) (u2 i)) in
+    let own : u ≡ trunc (parallel_value m (q - m) (ups q x e l) (ups q x e r)) q = h.1.up ∙ ap (λ (v : ℤ). trunc v q) e0 in
+    let below1 : wl ≡ waves q x e l (trunc (parallel_part q m (q - m) (ups q x e l) (ups q x e r) d (ups q x e l)) q) =
+    left ∙ ap (waves q x e l) (h.1.first ∙ ap (λ (v : ℤ). trunc v q) e1) in
+    let below2 : wr ≡ waves q x e r (trunc (parallel_part q m (q - m) (ups q x e l) (ups q x e r) d (ups q x e r)) q) =
+    right ∙ ap (waves q x e r) (h.1.second ∙ ap (λ (v : ℤ). trunc v q) e2) in
+    λ i. forks (own i) d (e1 i) (e2 i) (e0 i) (below1 i) (below2 i)
+
+-- ---- a network
+
+pub solved-steps : (n : Network) → HasSoundTrees n → (x e : ℕ → ℤ) → IsStep n x e (solved n x e)
+solved-steps n s x e =
+    let q = unit_of n in
+    let u1 = ups q x e n.left in
+    let u2 = ups q x e n.right in
+    let b1 = root_value q n.m (q - n.m) u1 u2 u1 in
+    let b2 = root_value q n.m (q - n.m) u1 u2 u2 in
+    let g1 = conductance q (left_factor n) n.left in
+    let g2 = conductance q (right_factor n) n.right in
+    record {
+      root = subst (λ (v : ℤ). IsRoot q g1 g2 v (up (waves q x e n.right (trunc b2 q))) b1 b2) (sym (up-waves q x e n.left (trunc b1 q)))
+          (subst (λ (v : ℤ). IsRoot q g1 g2 u1 v b1 b2) (sym (up-waves q x e n.right (trunc b2 q)))
+          (root_solved q n.m (q - n.m) g1 g2 u1 u2 (whole_of q n.m s.few) (root_law q n.m n.left n.right s.few)));
+      to_left = down-waves q x e n.left (trunc b1 q);
+      to_right = down-waves q x e n.right (trunc b2 q);
+      left = follows q (left_factor n) x e n.left (trunc b1 q) s.unit (left_factor-pos n s) s.left;
+      right = follows q (right_factor n) x e n.right (trunc b2 q) s.unit (right_factor-pos n s) s.right;
+    }
+
+pub step-alone : (n : Network) → HasSoundTrees n → (x e : ℕ → ℤ) (f : Frame) → IsStep n x e f → f ≡ solved n x e
+step-alone n s x e f step =
+    let q = unit_of n in
+    let g1 = conductance q (left_factor n) n.left in
+    let g2 = conductance q (right_factor n) n.right in
+    let left = alone q (left_factor n) x e n.left f.left s.unit (left_factor-pos n s) s.left step.left in
+    let right = alone q (right_factor n) x e n.right f.right s.unit (right_factor-pos n s) s.right step.right in
+    let u1 : up f.left ≡ ups q x e n.left = ap up left ∙ up-waves q x e n.left (down f.left) in
+    let u2 : up f.right ≡ ups q x e n.right = ap up right ∙ up-waves q x e n.right (down f.right) in
+    let some = conductance-pos q (left_factor n) n.left s.unit (left_factor-pos n s) s.left in
+    let e1 : f.b1 ≡ root_value q n.m (q - n.m) (ups q x e n.left) (ups q x e n.right) (ups q x e n.left) =
+    root_alone_first q n.m (q - n.m) g1 g2 (up f.left) (up f.right) f.b1 f.b2 some (whole_of q n.m s.few) (root_law q n.m n.left n.right s.few) step.root
+    ∙ (λ i. root_value q n.m (q - n.m) (u1 i) (u2 i) (u1 i)) in
+    let e2 : f.b2 ≡ root_value q n.m (q - n.m) (ups q x e n.left) (ups q x e n.right) (ups q x e n.right) =
+    root_alone_second q n.m (q - n.m) g1 g2 (up f.left) (up f.right) f.b1 f.b2 some (whole_of q n.m s.few) (root_law q n.m n.left n.right s.few) step.root
+    ∙ (λ i. root_value q n.m (q - n.m) (u1 i) (u2 i) (u2 i)) in
+    let below1 = left ∙ ap (waves q x e n.left) (step.to_left ∙ ap (λ (v : ℤ). trunc v q) e1) in
+    let below2 = right ∙ ap (waves q x e n.right) (step.to_right ∙ ap (λ (v : ℤ). trunc v q) e2) in
+    λ i. record { b1 = e1 i; b2 = e2 i; left = below1 i; right = below2 i }
+
+pub has_one_step : (n : Network) → IsNetwork n → HasOneStep n
+has_one_step n rules =
+    let s = sound_trees n rules in
+    record {
+      some = λ zs e. (solved n (states n zs) e, solved-steps n s (states n zs) e);
+      only = λ zs e f t h k. step-alone n s (states n zs) e f h ∙ sym (step-alone n s (states n zs) e t k);
+    }

@@ -1,0 +1,100 @@
+-- The energies of a network, as sums of weighted squares: g·x² at a port of the conductance g. Their unit is that of the
+-- conductances.
+use Rattle.std.specs.Prelude.{ℕ, ◌+◌, ◌*◌, ◌==◌, if◌then◌else◌, ℤ, List, [], ◌∷◌}
+use Rattle.wdf_algebra.specs.Squares.{square}
+use Rattle.wdf_law.specs.declared.kind.Kind.{Kind}
+use Rattle.wdf_law.specs.declared.kind.Kind.TheVariants.{Res, Cap, Ind, Src}
+use Rattle.wdf_law.specs.Trees.{Plain, leaf, series, parallel}
+use Rattle.wdf_law.specs.Network.{Network, unit_of}
+use Rattle.wdf_law.specs.Conductance.{conductance, series_first, series_second, parallel_first, parallel_second, root_first, root_second}
+use Rattle.wdf_law.specs.Step.{Waves, ends, forks, Frame, after}
+use Rattle.wdf_law.specs.Run.{states}
+
+-- a reactance's share, a source's share, and that of a resistor or a source
+abbrev pub if_reactance : Kind → ℕ → ℕ
+if_reactance Cap n = n
+if_reactance Ind n = n
+if_reactance Res n = 0
+if_reactance Src n = 0
+
+abbrev pub if_source : Kind → ℕ → ℕ
+if_source Src n = n
+if_source Res n = 0
+if_source Cap n = 0
+if_source Ind n = 0
+
+abbrev pub if_absorbing : Kind → ℕ → ℕ
+if_absorbing Res n = n
+if_absorbing Src n = n
+if_absorbing Cap n = 0
+if_absorbing Ind n = 0
+
+-- the sum of g·x² over the reactances of a tree with the factor f, by the element's number
+abbrev pub stored_in : ℕ → (ℕ → ℤ) → ℕ → Plain → ℕ
+stored_in q x f (leaf i k flip) = if_reactance k (conductance q f (leaf i k flip) * square (x i))
+stored_in q x f (series m l r) = stored_in q x (series_first q f m r) l + stored_in q x (series_second q f m l) r
+stored_in q x f (parallel m l r) = stored_in q x (parallel_first q f m r) l + stored_in q x (parallel_second q f m l) r
+
+-- the sum of g·e² over the sources
+abbrev pub incident_in : ℕ → (ℕ → ℤ) → ℕ → Plain → ℕ
+incident_in q e f (leaf i k flip) = if_source k (conductance q f (leaf i k flip) * square (e i))
+incident_in q e f (series m l r) = incident_in q e (series_first q f m r) l + incident_in q e (series_second q f m l) r
+incident_in q e f (parallel m l r) = incident_in q e (parallel_first q f m r) l + incident_in q e (parallel_second q f m l) r
+
+-- the sum of g·d² over the resistors and the sources, d being the wave that is sent there
+abbrev pub absorbed_in : ℕ → ℕ → Plain → Waves → ℕ
+absorbed_in q f (leaf i k flip) (ends u d) = if_absorbing k (conductance q f (leaf i k flip) * square d)
+absorbed_in q f (leaf i k flip) (forks u d b1 b2 b wl wr) = 0
+absorbed_in q f (series m l r) (ends u d) = 0
+absorbed_in q f (series m l r) (forks u d b1 b2 b wl wr) = absorbed_in q (series_first q f m r) l wl + absorbed_in q (series_second q f m l) r wr
+absorbed_in q f (parallel m l r) (ends u d) = 0
+absorbed_in q f (parallel m l r) (forks u d b1 b2 b wl wr) = absorbed_in q (parallel_first q f m r) l wl + absorbed_in q (parallel_second q f m l) r wr
+
+-- the factors of the two trees of a network
+abbrev pub left_factor : Network → ℕ
+left_factor n = root_first (unit_of n) n.m n.right
+
+abbrev pub right_factor : Network → ℕ
+right_factor n = root_second (unit_of n) n.m n.left
+
+-- the energy stored in the states zs, in netlist order
+abbrev pub stored : Network → List ℤ → ℕ
+stored n zs = stored_in (unit_of n) (states n zs) (left_factor n) n.left + stored_in (unit_of n) (states n zs) (right_factor n) n.right
+
+-- the energy sent in and taken up in one step
+abbrev pub incident : Network → (ℕ → ℤ) → ℕ
+incident n e = incident_in (unit_of n) e (left_factor n) n.left + incident_in (unit_of n) e (right_factor n) n.right
+
+abbrev pub absorbed : Network → Frame → ℕ
+absorbed n s = absorbed_in (unit_of n) (left_factor n) n.left s.left + absorbed_in (unit_of n) (right_factor n) n.right s.right
+
+-- and in all steps of a run
+abbrev pub all_incident : Network → List (ℕ → ℤ) → ℕ
+all_incident n [] = 0
+all_incident n (e ∷ es) = incident n e + all_incident n es
+
+abbrev pub all_absorbed : Network → List Frame → ℕ
+all_absorbed n [] = 0
+all_absorbed n (s ∷ ss) = absorbed n s + all_absorbed n ss
+
+-- the states at the end of a run from the states zs
+abbrev pub at_end : Network → List ℤ → List Frame → List ℤ
+at_end n zs [] = zs
+at_end n zs (s ∷ ss) = at_end n (after n s) ss
+
+-- g·d² at the resistor or source with the number j, 0 where there is none
+abbrev pub taken_in : ℕ → ℕ → ℕ → Plain → Waves → ℕ
+taken_in q j f (leaf i k flip) (ends u d) = if i == j then if_absorbing k (conductance q f (leaf i k flip) * square d) else 0
+taken_in q j f (leaf i k flip) (forks u d b1 b2 b wl wr) = 0
+taken_in q j f (series m l r) (ends u d) = 0
+taken_in q j f (series m l r) (forks u d b1 b2 b wl wr) = taken_in q j (series_first q f m r) l wl + taken_in q j (series_second q f m l) r wr
+taken_in q j f (parallel m l r) (ends u d) = 0
+taken_in q j f (parallel m l r) (forks u d b1 b2 b wl wr) = taken_in q j (parallel_first q f m r) l wl + taken_in q j (parallel_second q f m l) r wr
+
+abbrev pub taken : Network → ℕ → Frame → ℕ
+taken n j s = taken_in (unit_of n) j (left_factor n) n.left s.left + taken_in (unit_of n) j (right_factor n) n.right s.right
+
+-- g times the sum of d² over a run
+abbrev pub all_taken : Network → ℕ → List Frame → ℕ
+all_taken n j [] = 0
+all_taken n j (s ∷ ss) = taken n j s + all_taken n j ss

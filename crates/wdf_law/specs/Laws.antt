@@ -1,0 +1,121 @@
+-- What the definitions of a network imply, for every network, every state and every input.
+use Rattle.std.specs.Prelude.{◌≡◌, ℕ, ◌+◌, ◌*◌, ◌<◌, ◌≤◌, ℤ, pos, ◌*ℤ◌, List, [], ◌∷◌}
+use Rattle.wdf_algebra.specs.Squares.{square}
+use Rattle.wdf_algebra.specs.Truncation.{trunc}
+use Rattle.wdf_law.specs.Trees.{Plain, leaf, series, parallel}
+use Rattle.wdf_law.specs.Network.{Network, unit_of}
+use Rattle.wdf_law.specs.Conductance.{conductance, series_first, series_second, parallel_first, parallel_second}
+use Rattle.wdf_law.specs.Step.{Waves, ends, forks, Frame, IsStep, after}
+use Rattle.wdf_law.specs.Run.{states, rest, IsRun}
+use Rattle.wdf_law.specs.Energy.{left_factor, right_factor, stored, incident, absorbed, all_incident, all_absorbed, all_taken, at_end}
+
+-- ---- conductances
+
+-- g = g1 + g2 and q·g1 = m·g
+pub record AreParallel (q m g1 g2 g : ℕ) : Type 0 where
+  pub sum : g ≡ g1 + g2
+  pub first : q * g1 ≡ m * g
+
+-- g·(g1 + g2) = g1·g2 and q·g = m·g1
+pub record AreSeries (q m g1 g2 g : ℕ) : Type 0 where
+  pub sum : g * (g1 + g2) ≡ g1 * g2
+  pub first : q * g ≡ m * g1
+
+-- every port of a tree with the factor f has a positive conductance, and every junction's three fit its multiplier
+abbrev pub HaveConductances : ℕ → ℕ → Plain → Type 0
+HaveConductances q f (leaf i k flip) = 0 < conductance q f (leaf i k flip)
+HaveConductances q f (series m l r) =
+    (0 < conductance q f (series m l r))
+    × AreSeries q m (conductance q (series_first q f m r) l) (conductance q (series_second q f m l) r) (conductance q f (series m l r))
+    × HaveConductances q (series_first q f m r) l × HaveConductances q (series_second q f m l) r
+HaveConductances q f (parallel m l r) =
+    (0 < conductance q f (parallel m l r))
+    × AreParallel q m (conductance q (parallel_first q f m r) l) (conductance q (parallel_second q f m l) r) (conductance q f (parallel m l r))
+    × HaveConductances q (parallel_first q f m r) l × HaveConductances q (parallel_second q f m l) r
+
+-- and at the root q·g1 = m·(g1 + g2)
+pub record HasConductances (n : Network) : Type 0 where
+  pub root : unit_of n * conductance (unit_of n) (left_factor n) n.left
+      ≡ n.m * (conductance (unit_of n) (left_factor n) n.left + conductance (unit_of n) (right_factor n) n.right)
+  pub left : HaveConductances (unit_of n) (left_factor n) n.left
+  pub right : HaveConductances (unit_of n) (right_factor n) n.right
+
+-- ---- one step
+
+-- from every state and for every input there is a step, and any two are equal
+pub record HasOneStep (n : Network) : Type 0 where
+  pub some : (zs : List ℤ) (e : ℕ → ℤ) → (s : Frame) × IsStep n (states n zs) e s
+  pub only : (zs : List ℤ) (e : ℕ → ℤ) (s t : Frame) → IsStep n (states n zs) e s → IsStep n (states n zs) e t → s ≡ t
+
+-- ---- energy
+
+-- q divides each outgoing value, so nothing is lost
+abbrev pub IsWhole : ℕ → ℤ → Type 0
+IsWhole q b = pos q *ℤ trunc b q ≡ b
+
+abbrev pub AreWhole : ℕ → Waves → Type 0
+AreWhole q (ends u d) = Unit {0}
+AreWhole q (forks u d b1 b2 b wl wr) = IsWhole q b1 × IsWhole q b2 × IsWhole q b × AreWhole q wl × AreWhole q wr
+
+pub record IsLossless (n : Network) (s : Frame) : Type 0 where
+  pub first : IsWhole (unit_of n) s.b1
+  pub second : IsWhole (unit_of n) s.b2
+  pub left : AreWhole (unit_of n) s.left
+  pub right : AreWhole (unit_of n) s.right
+
+pub record KeepsEnergy (n : Network) : Type 0 where
+  -- what is stored after a step and what was absorbed is at most what was stored before and what came in
+  pub step : (zs : List ℤ) (e : ℕ → ℤ) (s : Frame) → IsStep n (states n zs) e s
+      → stored n (after n s) + absorbed n s ≤ stored n zs + incident n e
+  -- where nothing is lost, they are equal
+  pub lossless : (zs : List ℤ) (e : ℕ → ℤ) (s : Frame) → IsStep n (states n zs) e s → IsLossless n s
+      → stored n (after n s) + absorbed n s ≡ stored n zs + incident n e
+  -- and so over a run from rest
+  pub run : (es : List (ℕ → ℤ)) (ss : List Frame) → IsRun n (rest n) es ss
+      → stored n (at_end n (rest n) ss) + all_absorbed n ss ≤ all_incident n es
+
+-- ---- every wave
+
+-- a wave's or a value's energy is at most c
+abbrev pub IsBounded : ℕ → ℕ → ℤ → Type 0
+IsBounded c g z = g * square z ≤ c
+
+-- at every port of a tree both waves are bounded by c, with the port's own conductance, and before truncation
+-- each outgoing value by q²·c, with the conductance of the port that it is sent to
+abbrev pub AreBounded : ℕ → ℕ → ℕ → Plain → Waves → Type 0
+AreBounded q c f (leaf i k flip) (ends u d) = IsBounded c (conductance q f (leaf i k flip)) u × IsBounded c (conductance q f (leaf i k flip)) d
+AreBounded q c f (leaf i k flip) (forks u d b1 b2 b wl wr) = ⊥
+AreBounded q c f (series m l r) (ends u d) = ⊥
+AreBounded q c f (series m l r) (forks u d b1 b2 b wl wr) =
+    IsBounded c (conductance q f (series m l r)) u × IsBounded c (conductance q f (series m l r)) d
+    × IsBounded (q * q * c) (conductance q (series_first q f m r) l) b1
+    × IsBounded (q * q * c) (conductance q (series_second q f m l) r) b2
+    × IsBounded (q * q * c) (conductance q f (series m l r)) b
+    × AreBounded q c (series_first q f m r) l wl × AreBounded q c (series_second q f m l) r wr
+AreBounded q c f (parallel m l r) (ends u d) = ⊥
+AreBounded q c f (parallel m l r) (forks u d b1 b2 b wl wr) =
+    IsBounded c (conductance q f (parallel m l r)) u × IsBounded c (conductance q f (parallel m l r)) d
+    × IsBounded (q * q * c) (conductance q (parallel_first q f m r) l) b1
+    × IsBounded (q * q * c) (conductance q (parallel_second q f m l) r) b2
+    × IsBounded (q * q * c) (conductance q f (parallel m l r)) b
+    × AreBounded q c (parallel_first q f m r) l wl × AreBounded q c (parallel_second q f m l) r wr
+
+pub record IsFrameBounded (n : Network) (c : ℕ) (s : Frame) : Type 0 where
+  pub first : IsBounded (unit_of n * unit_of n * c) (conductance (unit_of n) (left_factor n) n.left) s.b1
+  pub second : IsBounded (unit_of n * unit_of n * c) (conductance (unit_of n) (right_factor n) n.right) s.b2
+  pub left : AreBounded (unit_of n) c (left_factor n) n.left s.left
+  pub right : AreBounded (unit_of n) c (right_factor n) n.right s.right
+
+-- each frame is bounded by the energy sent in so far, c being that before the first
+abbrev pub IsRunBounded : Network → ℕ → List (ℕ → ℤ) → List Frame → Type 0
+IsRunBounded n c [] ss = Unit {0}
+IsRunBounded n c (e ∷ es) [] = Unit {0}
+IsRunBounded n c (e ∷ es) (s ∷ ss) = IsFrameBounded n (c + incident n e) s × IsRunBounded n (c + incident n e) es ss
+
+pub record BoundsEveryWave (n : Network) : Type 0 where
+  -- by what was stored and what comes in
+  pub step : (zs : List ℤ) (e : ℕ → ℤ) (s : Frame) → IsStep n (states n zs) e s → IsFrameBounded n (stored n zs + incident n e) s
+  -- in a run from rest by what was sent in so far
+  pub run : (es : List (ℕ → ℤ)) (ss : List Frame) → IsRun n (rest n) es ss → IsRunBounded n 0 es ss
+  -- and a resistor or source takes up no more than all that was sent in
+  pub sums : (j : ℕ) (es : List (ℕ → ℤ)) (ss : List Frame) → IsRun n (rest n) es ss → all_taken n j ss ≤ all_incident n es
