@@ -1,15 +1,19 @@
 -- Fractions brought to lowest terms, and their products.
 use Prim.Native.Nat.{◌∣◌}
-use Rattle.std.proofs.Common.{◌≡◌, ℕ, ◌*◌, ◌/◌, ◌^◌, ◌<◌, ◌≤◌, sym, ap, subst, inl, inr, ⊎_elim, arith}
+use Rattle.std.proofs.Common.{◌≡◌, ℕ, ◌*◌, ◌/◌, ◌^◌, ◌<◌, ◌≤◌, sym, ap, subst, ⊎_elim, arith}
 use Rattle.std.specs.Int.{IsGcd}
 use Rattle.std.proofs.lemmas.Nat.Gcd.{le_of_dvd, IsGcd-swap}
 use Rattle.std.proofs.Math.Nat.{dvd-mul_right, div-mul_cancel, pos_of_dvd_of_pos, mul-pos, eq_of_mul-eq-mul_right}
-use Rattle.wdf_frac.specs.Fraction.{Fraction, IsLowest, IsQuotient, IsProduct, IsProductTooWide}
+use Rattle.wdf_frac.specs.Fraction.{Fraction, IsLowest, IsQuotient, IsWithin, IsProduct, IsProductTooWide}
 use Rattle.wdf_frac.proofs.Coprime.{dvd_of_coprime, IsGcd-divisors, IsGcd-product, IsGcd-quotients, quotient-positive}
+
+-- a over b
+abbrev pub over : ℕ → ℕ → Fraction
+over a b = record { num = a; den = b }
 
 -- a/g over b/g
 abbrev pub reduced : ℕ → ℕ → ℕ → Fraction
-reduced a b g = record { num = a / g; den = b / g }
+reduced a b g = over (a / g) (b / g)
 
 pub IsLowest-reduced : (a b g : ℕ) → 0 < a → 0 < b → IsGcd a b g → IsLowest (reduced a b g)
 IsLowest-reduced a b g ha hb h = record {
@@ -30,7 +34,7 @@ IsQuotient-reduced a b g h =
 
 -- the product of two fractions, part by part
 abbrev pub crossed : Fraction → Fraction → Fraction
-crossed p r = record { num = p.num * r.num; den = p.den * r.den }
+crossed p r = over (p.num * r.num) (p.den * r.den)
 
 -- the parts of a quotient in lowest terms divide what it is the quotient of
 num-divides : (p : Fraction) (top bottom : ℕ) → IsLowest p → IsQuotient p top bottom → p.num ∣ top
@@ -42,6 +46,10 @@ den-divides : (p : Fraction) (top bottom : ℕ) → IsLowest p → IsQuotient p 
 den-divides p top bottom lp is_p =
     let e : p.den * top ≡ p.num * bottom = omega (arith, is_p) in
     dvd_of_coprime p.den p.num bottom (IsGcd-swap p.num p.den 1 lp.no_common_divisor) (subst (λ (m : ℕ). p.den ∣ m) e (dvd-mul_right p.den top))
+
+-- so they are within it
+pub IsWithin-quotient : (p : Fraction) (top bottom : ℕ) → 0 < top → 0 < bottom → IsLowest p → IsQuotient p top bottom → IsWithin p top bottom
+IsWithin-quotient p top bottom ht hb lp is_p = (le_of_dvd ht (num-divides p top bottom lp is_p), le_of_dvd hb (den-divides p top bottom lp is_p))
 
 crossed-value : (a b c d pn pd rn rd : ℕ) → pn * d ≡ a * pd → rn * b ≡ c * rd → pn * rn * (b * d) ≡ a * c * (pd * rd)
 crossed-value a b c d pn pd rn rd hp hr =
@@ -80,22 +88,12 @@ IsLowest-least p f top bottom positive lp lf is_p is_f =
     let den : p.den ∣ f.den = dvd_of_coprime p.den p.num f.den (IsGcd-swap p.num p.den 1 lp.no_common_divisor) (subst (λ (m : ℕ). p.den ∣ m) (sym e) (dvd-mul_right p.den f.num)) in
     (le_of_dvd lf.num_positive num, le_of_dvd lf.den_positive den)
 
-product-least : (x y p f : Fraction) → IsLowest x → IsLowest y → IsProduct x y p → IsProduct x y f → (p.num ≤ f.num) × (p.den ≤ f.den)
-product-least x y p f lx ly is_p is_f =
-    IsLowest-least p f (x.num * y.num) (x.den * y.den) (mul-pos lx.den_positive ly.den_positive) is_p.lowest is_f.lowest is_p.value is_f.value
-
--- where a part of one product in lowest terms is wide, it is so in each
-pub IsProductTooWide-num : (x y p : Fraction) → IsLowest x → IsLowest y → IsProduct x y p → 2 ^ 128 ≤ p.num → IsProductTooWide x y
-IsProductTooWide-num x y p lx ly is_p wide f is_f =
-    let least = product-least x y p f lx ly is_p is_f in
-    inl (omega (arith, least.0, wide))
-
-pub IsProductTooWide-den : (x y p : Fraction) → IsLowest x → IsLowest y → IsProduct x y p → 2 ^ 128 ≤ p.den → IsProductTooWide x y
-IsProductTooWide-den x y p lx ly is_p wide f is_f =
-    let least = product-least x y p f lx ly is_p is_f in
-    inr (omega (arith, least.1, wide))
-
--- a product in lowest terms that fits shows that none is too wide
-pub IsProductTooWide-fits : (x y f : Fraction) → IsProduct x y f → f.num < 2 ^ 128 → f.den < 2 ^ 128 → IsProductTooWide x y → ⊥
-IsProductTooWide-fits x y f is_f num den wide =
-    ⊎_elim (λ (h : 2 ^ 128 ≤ f.num). let bad : ⊥ = omega arith in bad) (λ (h : 2 ^ 128 ≤ f.den). let bad : ⊥ = omega arith in bad) (wide f is_f)
+-- no product in lowest terms is wider than one that fits
+pub IsProductTooWide-fits : (x y f : Fraction) → IsLowest x → IsLowest y → IsProduct x y f → f.num < 2 ^ 128 → f.den < 2 ^ 128 → IsProductTooWide x y → ⊥
+IsProductTooWide-fits x y f lx ly is_f num den wide =
+    let p = wide.product in
+    let least = IsLowest-least p f (x.num * y.num) (x.den * y.den) (mul-pos lx.den_positive ly.den_positive) wide.is_product.lowest is_f.lowest wide.is_product.value is_f.value in
+    ⊎_elim
+    (λ (h : 2 ^ 128 ≤ p.num). let bad : ⊥ = omega (arith, least.0) in bad)
+    (λ (h : 2 ^ 128 ≤ p.den). let bad : ⊥ = omega (arith, least.1) in bad)
+    wide.too_wide

@@ -1,6 +1,6 @@
 ghost use Rattle.std.specs.Prelude.{◌≡◌, ℕ, ◌*◌, ◌^◌, ◌<◌, ◌≤◌, ◌⊎◌, ◌↔◌, ⊤, IfOk, IsOkUnless, unsigned_abs};
-ghost use Rattle.wdf_frac.specs.Fraction.{IsLowest, IsQuotient, IsProduct, IsProductTooWide};
-ghost use Rattle.wdf_frac.specs.Units.{units_of, IfAt};
+ghost use Rattle.wdf_frac.specs.Fraction.{IsLowest, IsQuotient, IsWithin, IsProduct, IsProductTooWide};
+ghost use Rattle.wdf_frac.specs.Units.{units_of, HasUnitsOf, IfAt};
 
 use crate::rounding::rounded;
 use crate::{FracError, Scaled, gcd};
@@ -33,6 +33,8 @@ impl Frac {
     pub fn new(num: u128, den: u128) -> Result<Frac, FracError>
         ensures value { IfOk result (λ f. IsQuotient f num den) }
         ensures lowest { IfOk result (λ f. IsLowest f) }
+        ensures within { IfOk result (λ f. IsWithin f num den) }
+        ensures units { IfOk result (λ f. HasUnitsOf f num den) }
         ensures zero_part { (result ≡ Err FracError.ZeroPart) ↔ (num ≡ 0 ⊎ den ≡ 0) }
         ensures only_error { IsOkUnless result FracError.ZeroPart }
     {
@@ -64,6 +66,10 @@ impl Frac {
     /// not fit 128 bits: common factors are cancelled before anything is multiplied.
     pub fn mul(&self, other: &Frac) -> Result<Frac, FracError>
         ensures product { IfOk result (λ f. IsProduct self.now other.now f) }
+        ensures within { IfOk result (λ f.
+            IsWithin f (self.now.num * other.now.num) (self.now.den * other.now.den)) }
+        ensures units { IfOk result (λ f.
+            HasUnitsOf f (self.now.num * other.now.num) (self.now.den * other.now.den)) }
         ensures too_wide { (result ≡ Err FracError.TooWide) ↔ IsProductTooWide self.now other.now }
         ensures only_error { IsOkUnless result FracError.TooWide }
     {
@@ -81,13 +87,18 @@ impl Frac {
 
     /// The nearest whole number, half up, to `2^40·num·10^tens/den`: the fraction times `10^tens`,
     /// in units of 2^-40. It is exact, however wide the numbers in between would be.
+    ///
+    /// The numerator has to be below 2^64, the denominator below 2^100 and `tens` in -60..=60. The
+    /// answer is [`Scaled::Low`] exactly where the number is 0, and [`Scaled::High`] exactly where it
+    /// exceeds 2^62.
     pub fn scaled(&self, tens: i32) -> Scaled
         requires num { self.now.num < 2 ^ 64 }
         requires den { self.now.den < 2 ^ 100 }
         requires tens { unsigned_abs tens ≤ 60 }
-        ensures low { (result ≡ Scaled.Low) ↔ (units_of self.now tens ≡ 0) }
-        ensures high { (result ≡ Scaled.High) ↔ (2 ^ 62 < units_of self.now tens) }
-        ensures at { IfAt result (λ y. (y ≡ units_of self.now tens) × (1 ≤ y) × (y ≤ 2 ^ 62)) }
+        ensures low { (result ≡ Scaled.Low) ↔ (units_of self.now.num self.now.den tens ≡ 0) }
+        ensures high { (result ≡ Scaled.High) ↔ (2 ^ 62 < units_of self.now.num self.now.den tens) }
+        ensures at { IfAt result (λ y.
+            (y ≡ units_of self.now.num self.now.den tens) × (1 ≤ y) × (y ≤ 2 ^ 62)) }
     {
         let units = rounded(self.num(), self.den(), tens);
         if units == 0 {
@@ -106,6 +117,8 @@ fn lowest(num: u128, den: u128) -> Frac
     requires den { 0 < den }
     ensures value { IsQuotient result num den }
     ensures lowest { IsLowest result }
+    ensures within { IsWithin result num den }
+    ensures units { HasUnitsOf result num den }
 {
     let divisor = gcd(num, den);
     Frac {

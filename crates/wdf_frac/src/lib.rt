@@ -10,6 +10,8 @@ mod frac;
 mod frac_error;
 mod rounding;
 mod scaled;
+#[cfg(test)]
+mod tests;
 
 pub use divisor::gcd;
 pub use frac::Frac;

@@ -15,7 +15,7 @@ pub(crate) fn rounded(num: u128, den: u128, tens: i32) -> u128
     requires den { den < 2 ^ 100 }
     requires nonzero { 0 < den }
     requires tens { unsigned_abs tens ≤ 60 }
-    ensures { min result (2 ^ 63) ≡ min (units_of (record { num = num; den = den }) tens) (2 ^ 63) }
+    ensures { min result (2 ^ 63) ≡ min (units_of num den tens) (2 ^ 63) }
 {
     let half_units = num * HALF_UNITS;
     if tens < 0 {
