@@ -8,7 +8,7 @@ use Rattle.wdf_frac.specs.declared.scaled.Scaled.TheVariants.{Low, High, At}
 abbrev pub nearest : ℕ → ℕ → ℕ
 nearest top bottom = (2 * top + bottom) / (2 * bottom)
 
--- the nearest whole number, half up, to 2^40·num·10^tens/den: how many units num/den·10^tens has
+-- the nearest whole number, half up, to 2^40·num·10^tens/den: how many units num/den·10^tens has; negsuc t is -(t+1)
 abbrev pub units_of : (num den : ℕ) → ℤ → ℕ
 units_of num den (pos t) = nearest (2 ^ 40 * 10 ^ t * num) den
 units_of num den (negsuc t) = nearest (2 ^ 40 * num) (10 ^ suc t * den)

@@ -89,8 +89,8 @@ impl Frac {
     /// in units of 2^-40. It is exact, however wide the numbers in between would be.
     ///
     /// The numerator has to be below 2^64, the denominator below 2^100 and `tens` in -60..=60. The
-    /// answer is [`Scaled::Low`] exactly where the number is 0, and [`Scaled::High`] exactly where it
-    /// exceeds 2^62.
+    /// answer is [`Scaled::Low`] exactly where the number is 0, and [`Scaled::High`] exactly where
+    /// it exceeds 2^62.
     pub fn scaled(&self, tens: i32) -> Scaled
         requires num { self.now.num < 2 ^ 64 }
         requires den { self.now.den < 2 ^ 100 }

@@ -148,8 +148,8 @@ fn fractions_are_counted_in_the_nearest_unit(rt: HostRuntime) {
     }
 }
 
-// Loads in ohms, as a number of powers of ten, over a source of 1 ohm: a port's ratio is in
-// 1..=2^62 units.
+// Loads of 4 and 5 ohms times a power of ten, over a source of 1 ohm: a port's ratio is in range
+// where it has 1 to 2^62 units.
 #[test]
 fn loads_at_the_ends_of_the_range_of_a_ratio(rt: HostRuntime) -> Result<(), Fail> {
     let four = Frac::new(4, 1)?;
