@@ -1,0 +1,4 @@
+mod Coprime
+mod Products
+mod Digits
+mod Halves
