@@ -1,7 +1,7 @@
 -- From what the stages of a run did to what its answer says.
-use Rattle.std.proofs.Common.{◌≡◌, ℕ, ◌+◌, ◌-◌, ◌*◌, ◌/◌, ◌%◌, ◌<◌, ◌≤◌, min, List, [], ◌∷◌, ◌++◌, length, take, drop, replicate, Option, None, Some, inl, inr, refl, ap, sym, ◌∙◌, subst, arith, append_assoc, append-nil, length-append}
-use Rattle.std.specs.Io.KnownBytes.{Consumes, Appends, IsAtEnd, Keeps}
-use Rattle.std.proofs.KnownBytes.{Consumes-trans, Keeps-refl}
+use Rattle.std.proofs.Common.{◌≡◌, ℕ, ◌+◌, ◌-◌, ◌*◌, ◌/◌, ◌%◌, ◌<◌, ◌≤◌, List, [], ◌++◌, length, take, replicate, Option, None, Some, inr, refl, ap, sym, ◌∙◌, subst, arith, append_assoc, append-nil, length-append}
+use Rattle.std.specs.Io.KnownBytes.{Consumes, IsAtEnd}
+use Rattle.std.proofs.KnownBytes.{Consumes-trans}
 use Rattle.std.proofs.Math.Nat.{mul-mod_left}
 use Rattle.std.proofs.Math.Seq.{take-append-add}
 use Rattle.wdf_wav.specs.declared.head.Head.{Head}
@@ -13,7 +13,7 @@ use Rattle.wdf.specs.declared.status.Status.{Status}
 use Rattle.wdf.specs.declared.status.Status.TheVariants.{Done, Truncated, ReadFault, WriteFault, LoadFault, Missing, FileTooLarge, NoMemory, Unbuilt}
 use Rattle.wdf.specs.Answer.{WritesLoadWaves, GainsFront, EndsEarly, RunStops, frames_of, held}
 use Rattle.wdf.specs.Circuit.{two_leaves, root_multiplier}
-use Rattle.wdf.specs.Opening.{Opens, HeadRefuses, WritesWave, StopsWave, EndsWave, WaveStops}
+use Rattle.wdf.specs.Opening.{Opens, WritesWave, StopsWave, EndsWave, WaveStops}
 use Rattle.wdf.specs.Progress.{data_for, IsFront}
 use Rattle.wdf.specs.Told.{Told}
 use Rattle.wdf.specs.TwoLeafWave.{values_of}

@@ -1,16 +1,16 @@
 -- No refusal fits a run in which all is there.
-use Rattle.std.proofs.Common.{◌≡◌, ℕ, ◌+◌, ◌*◌, ◌/◌, ◌<◌, ◌≤◌, ◌⊎◌, inl, inr, List, [], ◌∷◌, ◌++◌, length, map, take, Option, None, Some, refl, ap, sym, ◌∙◌, subst, arith, append_assoc, length-append, codes}
-use Rattle.std.specs.Prelude.{String, string_bytes}
+use Rattle.std.proofs.Common.{◌≡◌, ℕ, ◌+◌, ◌*◌, ◌/◌, ◌<◌, ◌⊎◌, inl, inr, List, ◌++◌, length, Option, None, Some, refl, ap, sym, ◌∙◌, subst, arith, append_assoc, length-append, codes}
+use Rattle.std.specs.Prelude.{String}
 use Rattle.std.specs.declared.alloc.Global.{Global}
 use Rattle.wdf_io.specs.Files.{Files, file_of, IsLarger}
 use Rattle.wdf_wav.specs.declared.head.Head.{Head}
-use Rattle.wdf_wav.specs.Header.{head_bytes_of, data_size, block_align}
+use Rattle.wdf_wav.specs.Header.{head_bytes_of, data_size}
 use Rattle.wdf.specs.declared.netlist.Netlist.{Netlist}
 use Rattle.wdf.specs.declared.status.Status.{Status}
 use Rattle.wdf.specs.declared.status.Status.TheVariants.{Done, Truncated, ReadFault, WriteFault, LoadFault, Missing, FileTooLarge, NoMemory, Unbuilt}
-use Rattle.wdf.specs.Answer.{EndsEarly, AnswerMeets, StopsWords}
+use Rattle.wdf.specs.Answer.{EndsEarly, AnswerMeets}
 use Rattle.wdf.specs.Complete.{IsWhole}
-use Rattle.wdf.specs.Loading.{Holds, Loads, Lacks, IsTooLarge, IsNoNetlist}
+use Rattle.wdf.specs.Loading.{Holds, Loads}
 use Rattle.wdf.specs.NetlistText.{Stands}
 use Rattle.wdf.specs.Operands.{IsOrder}
 use Rattle.wdf.specs.Plan.{most_bytes}

@@ -1,5 +1,5 @@
 -- One frame more, and a fault within a frame.
-use Rattle.std.proofs.Common.{◌≡◌, ℕ, ◌+◌, ◌*◌, ◌%◌, ◌<◌, ◌≤◌, List, [], ◌∷◌, ◌++◌, length, take, drop, map, Option, refl, ap, sym, ◌∙◌, subst, arith, length-append, append_assoc, append-nil, take-append-drop}
+use Rattle.std.proofs.Common.{◌≡◌, ℕ, ◌+◌, ◌*◌, ◌%◌, ◌<◌, List, [], ◌++◌, length, take, drop, Option, refl, ap, sym, ◌∙◌, subst, arith, length-append, append_assoc, append-nil, take-append-drop}
 use Rattle.std.specs.Prelude.{ℤ}
 use Rattle.std.specs.Io.KnownBytes.{Consumes, Appends}
 use Rattle.std.proofs.KnownBytes.{Consumes-nil, Appends-nil, Consumes-trans, Appends-trans}
@@ -9,7 +9,7 @@ use Rattle.wdf_io.specs.Moved.{ConsumesAtMost, AppendsPart}
 use Rattle.wdf_wav.specs.Laws.{SamplesAppend, DataAppends}
 use Rattle.wdf_wav.specs.PcmStream.{samples_of, data_of}
 use Rattle.wdf.specs.TwoLeafWave.{value_of, values_of}
-use Rattle.wdf.specs.Progress.{data_for, Filters, StopsWithin, IsFront}
+use Rattle.wdf.specs.Progress.{data_for, Filters, StopsWithin}
 
 -- the data for a frame more is added behind
 pub data_more : SamplesAppend 16 → DataAppends 16 → (m count : ℕ) (body frame : List ℕ) → length body ≡ count * 2

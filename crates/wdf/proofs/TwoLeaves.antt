@@ -1,6 +1,6 @@
 -- The step of a network of a source and a load: it is solved here, and there is no other.
-use Rattle.std.proofs.Common.{◌≡◌, ℕ, ◌+◌, ◌-◌, ◌*◌, ◌^◌, ◌<◌, ◌≤◌, List, [], ◌∷◌, map, refl, sym, ap, ◌∙◌, subst, arith}
-use Rattle.std.specs.Prelude.{ℤ, pos, unsigned_abs, ◌+ℤ◌, ◌-ℤ◌, ◌*ℤ◌}
+use Rattle.std.proofs.Common.{◌≡◌, ℕ, ◌+◌, ◌-◌, ◌*◌, ◌^◌, ◌≤◌, List, [], ◌∷◌, map, refl, sym, ap, ◌∙◌, arith}
+use Rattle.std.specs.Prelude.{ℤ, pos, ◌*ℤ◌}
 use borrow.Author.Differences.{ints}
 use Rattle.wdf_algebra.specs.RootValue.{root_value}
 use Rattle.wdf_algebra.specs.Truncation.{trunc}
@@ -13,7 +13,7 @@ use Rattle.wdf_law.specs.OutputRule.{drive, load_wave, output_of}
 use Rattle.wdf.specs.Circuit.{two_leaves}
 use Rattle.wdf.specs.Plan.{guard, down}
 use Rattle.wdf.specs.StepLaw.{IsLoadWave}
-use Rattle.wdf.specs.TwoLeafWave.{wave_of, value_of, values_of}
+use Rattle.wdf.specs.TwoLeafWave.{wave_of, values_of}
 use Rattle.wdf.specs.Written.{inputs, outputs, GivesOutputs}
 
 -- the whole frame

@@ -1,5 +1,5 @@
 -- The header before the frames, read and written.
-use Rattle.std.proofs.Common.{◌≡◌, ℕ, ◌+◌, ◌*◌, ◌<◌, ◌≤◌, List, [], ◌∷◌, ◌++◌, length, take, drop, Option, None, Some, refl, ap, sym, ◌∙◌, subst, arith, append_assoc, append-nil, take-append-drop, length-append, length-take}
+use Rattle.std.proofs.Common.{◌≡◌, ℕ, ◌<◌, List, [], ◌∷◌, ◌++◌, length, take, drop, Option, None, Some, refl, ap, sym, ◌∙◌, arith, append_assoc, take-append-drop, length-append, length-take}
 use Rattle.std.specs.Io.KnownBytes.{Consumes, Appends, IsAtEnd}
 use Rattle.std.proofs.KnownBytes.{Consumes-nil, Appends-trans}
 use Rattle.wdf_io.specs.Moved.{AppendsPart}
@@ -8,9 +8,9 @@ use Rattle.wdf_wav.specs.Header.{head_bytes_of}
 use Rattle.wdf.specs.declared.status.Status.{Status}
 use Rattle.wdf.specs.declared.status.Status.TheVariants.{Done, Truncated, ReadFault, WriteFault, LoadFault, Missing, FileTooLarge, NoMemory, Unbuilt}
 use Rattle.wdf.specs.WaveForm.{IsRunHead}
-use Rattle.wdf.specs.Progress.{data_for, Filters, IsFront, StopsWithin, Ends, StopMeets}
+use Rattle.wdf.specs.Progress.{data_for, Filters, StopsWithin, StopMeets}
 use Rattle.wdf.proofs.HeadLemmas.{length-head_bytes_of}
-use Rattle.wdf.specs.Opening.{NoHead, WritesWave, StopsWave, EndsWave, WaveStops}
+use Rattle.wdf.specs.Opening.{NoHead, WritesWave, StopsWave, WaveStops}
 
 -- the front of a list of known length, and what is behind it
 pub front-same : (xs ys us vs : List ℕ) → length xs ≡ length ys → xs ++ us ≡ ys ++ vs → xs ≡ ys

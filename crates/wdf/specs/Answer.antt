@@ -1,9 +1,8 @@
 -- What each answer of a run says.
-use Rattle.std.specs.Prelude.{◌≡◌, ℕ, ◌+◌, ◌*◌, ◌/◌, ◌<◌, ◌≤◌, ◌⊎◌, min, List, ◌++◌, length, take, Option, String}
+use Rattle.std.specs.Prelude.{◌≡◌, ℕ, ◌*◌, ◌/◌, ◌<◌, ◌⊎◌, min, List, ◌++◌, length, take, Option, String}
 use Rattle.std.specs.Io.KnownBytes.{Consumes, Appends, Keeps}
 use Rattle.std.specs.declared.alloc.Global.{Global}
 use Rattle.wdf_io.specs.Files.{Files}
-use Rattle.wdf_io.specs.Moved.{ConsumesAtMost}
 use Rattle.wdf_wav.specs.declared.head.Head.{Head}
 use Rattle.wdf_wav.specs.Header.{head_bytes_of, data_size, block_align}
 use Rattle.wdf.specs.declared.netlist.Netlist.{Netlist}

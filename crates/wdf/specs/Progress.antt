@@ -1,5 +1,5 @@
 -- How far the frames of a run have come, over mono samples of 16 bits. A frame is 2 bytes.
-use Rattle.std.specs.Prelude.{◌≡◌, ℕ, ◌+◌, ◌*◌, ◌<◌, ◌≤◌, List, ◌++◌, length, Option}
+use Rattle.std.specs.Prelude.{◌≡◌, ℕ, ◌*◌, ◌<◌, ◌≤◌, List, ◌++◌, length, Option}
 use Rattle.std.specs.Io.KnownBytes.{Consumes, Appends, IsAtEnd}
 use Rattle.wdf_wav.specs.PcmStream.{samples_of, data_of}
 use Rattle.wdf.specs.TwoLeafWave.{values_of}

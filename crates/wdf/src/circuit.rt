@@ -9,7 +9,7 @@ ghost use Rattle.wdf.specs.StepLaw.{IsLoadWave};
 ghost use Rattle.wdf.specs.TwoLeafWave.{wave_of, value_of};
 
 use crate::netlist::Netlist;
-use crate::ratio::{multiplier, port_ratio};
+use crate::ratio::{load_ratio, multiplier};
 use wdf_algebra::{quotient, times};
 use wdf_law::{Kind, Net, Outlet, Tree};
 
@@ -28,7 +28,7 @@ pub(crate) fn network(netlist: &Netlist) -> Net
     requires { IsInRange netlist.now }
     ensures { result ≡ network_for netlist.now }
 {
-    let ratio = port_ratio(netlist.source_ohms, netlist.load_ohms);
+    let ratio = load_ratio(netlist.source_ohms, netlist.load_ohms);
     two_leaves(multiplier(1 << 40, ratio, false, WIDTH))
 }
 

@@ -3,16 +3,27 @@ ghost use Rattle.std.specs.Prelude.{◌≡◌, ◌≤◌, ◌^◌};
 ghost use Rattle.wdf.specs.PortRatio.{port_ratio};
 ghost use Rattle.wdf.specs.Multiplier.{multiplier, nearest};
 
-/// The port resistance of a resistor by the source's, in units of 2^-40: the nearest whole number,
-/// half up. Both resistances are in ohms.
-pub(crate) fn port_ratio(source: u32, load: u32) -> u64
-    requires some { 1 ≤ source }
-    requires source { source ≤ 4000000 }
-    requires load { load ≤ 4000000 }
-    ensures { result ≡ port_ratio source load }
+use wdf_frac::{Frac, Scaled};
+
+/// The port resistance of a load by the source's, in units of 2^-40: the nearest whole number, half
+/// up. Both resistances are in ohms.
+pub(crate) fn load_ratio(source: u32, load: u32) -> u64
+    requires source { 1 ≤ source }
+    requires source_fits { source ≤ 4000000 }
+    requires load { 1 ≤ load }
+    requires load_fits { load ≤ 4000000 }
+    ensures value { result ≡ port_ratio source load }
+    ensures some { 1 ≤ result }
+    ensures fits { result ≤ 2 ^ 62 }
 {
-    let one = 1u64 << 40;
-    (2 * (one * u64::from(load)) + u64::from(source)) / (2 * u64::from(source))
+    let Ok(ratio) = Frac::new(u128::from(load), u128::from(source)) else {
+        unreachable!();
+    };
+    match ratio.scaled(0) {
+        Scaled::At(units) => units,
+        // No load of 1 to 4,000,000 ohms is out of range over such a source.
+        Scaled::Low | Scaled::High => unreachable!(),
+    }
 }
 
 /// The multiplier between two ports of the ratios `r1` and `r2`, in units of `2^-k`: of a series

@@ -1,4 +1,4 @@
-use crate::ratio::{multiplier, port_ratio};
+use crate::ratio::{load_ratio, multiplier};
 use crate::run::run;
 use crate::status::Status;
 use std::alloc::{AllocError, Global};
@@ -262,7 +262,7 @@ fn each_failing_call_is_answered_in_its_place(rt: HostRuntime) -> Result<(), Fai
 
 // Ohms of the source and of the load, the load's ratio in 2^-40 and the root's multiplier in 2^-14, computed
 // from the definitions by another program.
-const RATIOS: [(u32, u32, u64, u32); 40] = [
+static RATIOS: [(u32, u32, u64, u32); 40] = [
     (1, 1, 1099511627776, 8192),
     (1, 4000000, 4398046511104000000, 16383),
     (4000000, 1, 274878, 1),
@@ -307,10 +307,11 @@ const RATIOS: [(u32, u32, u64, u32); 40] = [
 
 #[test]
 fn ratios_and_multipliers_are_the_nearest(rt: HostRuntime) {
-    for (source, load, ratio, root) in RATIOS {
+    for row in &RATIOS {
+        let (source, load, ratio, root) = *row;
         assert!(rt; source >= 1 && source <= 4_000_000 && load >= 1 && load <= 4_000_000);
         assert!(rt; ratio >= 1 && ratio <= 1 << 62);
-        assert_eq!(rt; port_ratio(source, load), ratio, "of {load} over {source}");
+        assert_eq!(rt; load_ratio(source, load), ratio, "of {load} over {source}");
         assert_eq!(rt;
             multiplier(1 << 40, ratio, false, 14),
             root,

@@ -1,9 +1,7 @@
 -- The solved wave is that of every step.
-use Rattle.std.proofs.Common.{rules, ◌≡◌, ℕ, ◌<◌, ◌≤◌, ◌^◌, sym, subst, ap, ◌∙◌, arith, to_z, of_z, w64}
-use Rattle.std.proofs.lemmas.Int.{to_z-of_z}
+use Rattle.std.proofs.Common.{◌≡◌, ℕ, ◌<◌, ◌≤◌, ◌^◌, sym, subst, ap, arith, to_z, of_z, w64}
 use Rattle.std.proofs.lemmas.Grind.{common_steps}
 use Rattle.wdf_law.specs.Network.{Network}
-use Rattle.wdf.specs.Circuit.{two_leaves}
 use Rattle.wdf.specs.StepLaw.{IsLoadWave}
 use Rattle.wdf.specs.TwoLeafWave.{wave_of}
 use Rattle.wdf.proofs.TwoLeaves.{is_load_wave}

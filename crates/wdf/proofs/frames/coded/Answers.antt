@@ -1,12 +1,11 @@
 -- A frame of two bytes holds one sample, and its data is the coding of the value for that sample.
-use Rattle.std.proofs.Common.{◌≡◌, ℕ, List, [], ◌∷◌, ◌++◌, take, sym, ap, ◌∙◌, w64}
+use Rattle.std.proofs.Common.{◌≡◌, List, [], ◌∷◌, sym, ap, ◌∙◌, w64}
 use Rattle.std.specs.Prelude.{ℤ}
 use Rattle.std.proofs.lemmas.List.{append-nil}
 use Rattle.std.proofs.lemmas.Int.{to_z-of_z}
 use mir.Val.{SFits}
 use Rattle.wdf_wav.specs.SampleCoding.{sample_value, sample_coding}
 use Rattle.wdf_wav.specs.PcmStream.{samples_of, data_of}
-use Rattle.wdf.specs.Progress.{data_for}
 use Rattle.wdf.specs.TwoLeafWave.{values_of, value_of}
 use Rattle.wdf.proofs.frames.coded.Goals as goal
 

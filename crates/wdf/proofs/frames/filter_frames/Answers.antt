@@ -1,8 +1,6 @@
 -- One frame more, and what a fault leaves.
-use Rattle.std.proofs.Common.{rules, ◌≡◌, ◌≤◌, ℕ, length, arith}
+use Rattle.std.proofs.Common.{rules, arith}
 use Rattle.std.proofs.lemmas.Result.{err_from_is_err_and}
-use Rattle.wdf.specs.declared.status.Status.TheVariants.{ReadFault, WriteFault}
-use Rattle.wdf.specs.Progress.{Filters, StopsWithin, StopMeets}
 use Rattle.wdf.proofs.FrameLemmas.{next_frame, no_frame, stops_at_read, stops_at_write}
 use Rattle.wdf.proofs.frames.filter_frames.Goals as goal
 

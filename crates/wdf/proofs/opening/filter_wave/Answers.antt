@@ -1,5 +1,5 @@
 -- The header is written before the frames.
-use Rattle.std.proofs.Common.{◌≡◌, ap, subst, sym, List, ℕ}
+use Rattle.std.proofs.Common.{subst}
 use Rattle.std.specs.Io.KnownBytes.{Appends}
 use Rattle.std.proofs.lemmas.Result.{err_from_is_err_and}
 use Rattle.wdf_io.specs.Moved.{AppendsPart}

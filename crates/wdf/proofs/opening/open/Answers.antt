@@ -1,5 +1,5 @@
 -- The bytes that were read are no header.
-use Rattle.std.proofs.Common.{◌≡◌, ◌<◌, refl, ap, sym, ◌∙◌, length, take, ℕ, List, subst, rules, arith}
+use Rattle.std.proofs.Common.{◌≡◌, ◌<◌, refl, length, take, subst, rules, arith}
 use Rattle.std.proofs.lemmas.List.{take_all}
 use Rattle.std.specs.Io.KnownBytes.{Consumes}
 use Rattle.wdf.proofs.WaveLemmas.{no_head, no_short_head}

@@ -1,5 +1,5 @@
 -- The shift loses nothing: x·2^k is below 2^128.
-use Rattle.std.proofs.Common.{◌≡◌, ℕ, ◌+◌, ◌*◌, ◌/◌, ◌%◌, ◌^◌, ◌<◌, ◌≤◌, ap, sym, ◌∙◌, arith}
+use Rattle.std.proofs.Common.{◌≡◌, ℕ, ◌*◌, ◌/◌, ◌%◌, ◌^◌, ◌≤◌, ap, arith}
 use Rattle.std.proofs.Math.Nat.{mul-le-mul, mod-eq_of_lt, pow-le-pow_right}
 use Rattle.wdf.proofs.ratio.nearest.Goals as goal
 

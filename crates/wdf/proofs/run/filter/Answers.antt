@@ -1,5 +1,5 @@
 -- The stages of a run make its answer.
-use Rattle.std.proofs.Common.{◌≡◌, ℕ, ap, subst}
+use Rattle.std.proofs.Common.{ℕ, ap, subst}
 use Rattle.std.proofs.lemmas.Result.{err_from_is_err_and}
 use Rattle.wdf_law.specs.Network.{Network}
 use Rattle.wdf.specs.Opening.{WritesWave, WaveStops}

@@ -1,5 +1,5 @@
 -- A refusal does not fit a run in which all is there.
-use Rattle.std.proofs.Common.{◌≡◌, Err, ap}
+use Rattle.std.proofs.Common.{Err, ap}
 use Rattle.wdf.specs.declared.status.Status.{Status}
 use Rattle.wdf.proofs.CompleteLemmas.{complete}
 use Rattle.wdf.proofs.run.run.Goals as goal
