@@ -4,7 +4,8 @@ use Rattle.std.proofs.Common.{◌≡◌, ℕ, ◌+◌, ◌*◌, ◌<◌, [], ◌
 use lib.IntN.{ℤ, pos, ◌+ℤ◌, ◌-ℤ◌, ◌*ℤ◌}
 use Rattle.wdf_algebra.proofs.RingLaws.{linear}
 use Rattle.wdf_algebra.proofs.Cancelling.{cancel}
-use Rattle.wdf_algebra.proofs.Polynomials.{con, var, ◌⊕◌, ◌⊖◌, ◌⊗◌, ring, linear_combination}
+use Rattle.wdf_algebra.proofs.Polynomials.{con, var, ◌⊕◌, ◌⊖◌, ◌⊗◌, ring}
+use Rattle.wdf_algebra.proofs.LinearCombinations.{linear_combination}
 
 -- the value to the junction's own port, and to the part whose wave is u
 abbrev pub parallel_value : (m n : ℕ) (u1 u2 : ℤ) → ℤ

@@ -4,7 +4,8 @@ use Rattle.std.proofs.Common.{◌≡◌, ℕ, ◌+◌, ◌*◌, ◌<◌, [], ◌
 use lib.IntN.{ℤ, pos, ◌+ℤ◌, ◌-ℤ◌, ◌*ℤ◌}
 use Rattle.wdf_algebra.specs.RootValue.{root_value}
 use Rattle.wdf_algebra.proofs.Cancelling.{cancel}
-use Rattle.wdf_algebra.proofs.Polynomials.{con, var, ◌⊕◌, ◌⊖◌, ◌⊗◌, ring, linear_combination}
+use Rattle.wdf_algebra.proofs.Polynomials.{con, var, ◌⊕◌, ◌⊖◌, ◌⊗◌, ring}
+use Rattle.wdf_algebra.proofs.LinearCombinations.{linear_combination}
 
 -- both ports have the voltage 2·(m·u1 + n·u2)
 pub root_voltage : (q m n : ℕ) (u1 u2 u : ℤ) → pos q *ℤ u +ℤ root_value q m n u1 u2 u ≡ pos 2 *ℤ (pos m *ℤ u1 +ℤ pos n *ℤ u2)

@@ -3,7 +3,8 @@
 use Rattle.std.proofs.Common.{◌≡◌, ℕ, ◌+◌, ◌*◌, ◌<◌, [], ◌∷◌, refl, ap, arith}
 use lib.IntN.{ℤ, pos, ◌+ℤ◌, ◌-ℤ◌, ◌*ℤ◌}
 use Rattle.wdf_algebra.proofs.Cancelling.{cancel}
-use Rattle.wdf_algebra.proofs.Polynomials.{con, var, ◌⊕◌, ◌⊖◌, ◌⊗◌, linear_combination}
+use Rattle.wdf_algebra.proofs.Polynomials.{con, var, ◌⊕◌, ◌⊖◌, ◌⊗◌}
+use Rattle.wdf_algebra.proofs.LinearCombinations.{linear_combination}
 
 -- the value to the junction's own port, and to the part whose wave is u and whose multiplier is m
 abbrev pub series_value : (q : ℕ) (u1 u2 : ℤ) → ℤ
