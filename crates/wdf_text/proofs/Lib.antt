@@ -1,0 +1,4 @@
+mod CuttingLemmas
+mod NumberLemmas
+mod PaddingLemmas
+mod PlacingLemmas

@@ -1,0 +1,6 @@
+pub mod Left
+pub mod Names
+pub mod Numbers
+pub mod Padding
+pub mod Placing
+pub mod Words
