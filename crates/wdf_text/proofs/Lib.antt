@@ -1,4 +1,7 @@
 mod CuttingLemmas
+mod DecimalLemmas
 mod NumberLemmas
 mod PaddingLemmas
 mod PlacingLemmas
+mod RefusalLemmas
+mod SignificanceLemmas

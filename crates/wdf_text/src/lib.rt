@@ -6,14 +6,23 @@
 #![tactic(auto)]
 
 mod cursor;
+mod decimal_error;
+mod decimals;
 mod name;
 mod numbers;
 mod place;
+mod quantity;
+mod significant;
+#[cfg(test)]
+mod tests;
 mod word;
 mod writers;
 
 pub use cursor::{Cursor, MAX_TEXT};
+pub use decimal_error::DecimalError;
+pub use decimals::decimal;
 pub use name::Name;
 pub use numbers::whole;
+pub use quantity::Quantity;
 pub use word::Word;
 pub use writers::{push_i128, push_line, push_u128};
