@@ -43,34 +43,28 @@ fn a_text_is_cut_into_lines_and_words(rt: HostRuntime) {
     );
 }
 
+// A text that is no name gives `@`.
+fn name(text: &str) -> Name {
+    Name::new(text.as_bytes()).unwrap_or(Name::at_sign())
+}
+
+// Where the key of this text stands in the map.
+fn place(places: &IndexMap<Name, u32>, text: &str) -> Option<usize> {
+    let key = name(text);
+    places.get_index_of(&key)
+}
+
 #[test]
 fn a_name_is_a_key(rt: HostRuntime) -> Result<(), Fail> {
     let mut places = IndexMap::new(rt.alloc());
-    for (place, bytes) in [b"R1".as_slice(), b"r1", b"_", b"abcdefghijklmnop"]
-        .iter()
-        .enumerate()
-    {
-        let name = Name::new(bytes).ok_or("no name")?;
-        assert_eq!(rt; name.as_bytes(), *bytes);
-        places.insert(name, place)?;
-    }
-    places.insert(Name::at_sign(), 4)?;
-    places.insert(Name::new(b"r1").ok_or("no name")?, 5)?;
-    assert_eq!(rt; places.len(), 5);
-    assert_eq!(rt; places.get(&Name::new(b"R1").ok_or("no name")?), Some(&0));
-    assert_eq!(rt; places.get(&Name::new(b"r1").ok_or("no name")?), Some(&5));
-    assert_eq!(rt; places.get(&Name::at_sign()), Some(&4));
-    assert_eq!(rt; Name::at_sign().as_bytes(), b"@".as_slice());
-    for bytes in [
-        b"".as_slice(),
-        b"@",
-        b"a-b",
-        b"a b",
-        b"abcdefghijklmnopq",
-        b"\xc3\xa4",
-    ] {
-        assert!(rt; Name::new(bytes).is_none(), "{bytes:?}");
-    }
+    places.insert(name("R1"), 1)?;
+    places.insert(name("r1"), 2)?;
+    places.insert(Name::at_sign(), 3)?;
+    places.insert(name("R1"), 4)?;
+    assert_eq!(rt; place(&places, "R1"), Some(0));
+    assert_eq!(rt; place(&places, "r1"), Some(1));
+    assert_eq!(rt; place(&places, "@"), Some(2));
+    assert_eq!(rt; places.len(), 3);
     Ok(())
 }
 
@@ -94,64 +88,78 @@ fn a_whole_number_has_1_to_20_digits(rt: HostRuntime) {
     }
 }
 
+// A text, and the digits and exponent of its quantity.
+const DECIMALS: [(&str, u64, i8); 23] = [
+    ("0", 0, 0),
+    ("00", 0, 0),
+    ("0.0", 0, 0),
+    ("1", 1, 0),
+    ("10", 1, 1),
+    ("100", 1, 2),
+    ("1.", 1, 0),
+    (".5", 5, -1),
+    ("0.5", 5, -1),
+    ("0.50", 5, -1),
+    ("007", 7, 0),
+    ("123456789", 123456789, 0),
+    ("1234567890", 123456789, 1),
+    ("1.23456789", 123456789, -8),
+    ("12345678900000000000", 123456789, 11),
+    ("0.000000001", 1, -9),
+    ("1000000000000000000000000000000000000000", 1, 39),
+    ("0.00000000000000000000000000000000000000", 0, 0),
+    ("0.00000000000000000000000000000000000001", 1, -38),
+    ("100000001", 100000001, 0),
+    ("10.01", 1001, -2),
+    ("0010.0100", 1001, -2),
+    ("9999999990", 999999999, 1),
+];
+
+// A text, and why it is refused.
+const REFUSED: [(&str, DecimalError); 17] = [
+    ("", DecimalError::Empty),
+    (".", DecimalError::Empty),
+    ("1.2.3", DecimalError::BadByte { at: 3 }),
+    ("12a", DecimalError::BadByte { at: 2 }),
+    ("-1", DecimalError::BadByte { at: 0 }),
+    ("+1", DecimalError::BadByte { at: 0 }),
+    ("1e3", DecimalError::BadByte { at: 1 }),
+    ("1234567891", DecimalError::TooManyDigits),
+    (
+        "10000000000000000000000000000000000000000",
+        DecimalError::TooLong,
+    ),
+    (
+        "0.000000000000000000000000000000000000000",
+        DecimalError::TooLong,
+    ),
+    ("1000000001", DecimalError::TooManyDigits),
+    (".", DecimalError::Empty),
+    ("..", DecimalError::BadByte { at: 1 }),
+    ("1..", DecimalError::BadByte { at: 2 }),
+    ("a", DecimalError::BadByte { at: 0 }),
+    (
+        "xxxxxxxxxxxxxxxxxxxxxxxxxxxxxxxxxxxxxxxxx",
+        DecimalError::TooLong,
+    ),
+    (
+        "11111111111111111111111111111111111111111",
+        DecimalError::TooLong,
+    ),
+];
+
 #[test]
 fn a_decimal_has_one_form(rt: HostRuntime) {
-    for (text, want) in [
-        ("", Err(DecimalError::Empty)),
-        (".", Err(DecimalError::Empty)),
-        ("0", Ok((0, 0))),
-        ("00", Ok((0, 0))),
-        ("0.0", Ok((0, 0))),
-        ("1", Ok((1, 0))),
-        ("10", Ok((1, 1))),
-        ("100", Ok((1, 2))),
-        ("1.", Ok((1, 0))),
-        (".5", Ok((5, -1))),
-        ("0.5", Ok((5, -1))),
-        ("0.50", Ok((5, -1))),
-        ("007", Ok((7, 0))),
-        ("1.2.3", Err(DecimalError::BadByte { at: 3 })),
-        ("12a", Err(DecimalError::BadByte { at: 2 })),
-        ("-1", Err(DecimalError::BadByte { at: 0 })),
-        ("+1", Err(DecimalError::BadByte { at: 0 })),
-        ("1e3", Err(DecimalError::BadByte { at: 1 })),
-        ("123456789", Ok((123456789, 0))),
-        ("1234567891", Err(DecimalError::TooManyDigits)),
-        ("1234567890", Ok((123456789, 1))),
-        ("1.23456789", Ok((123456789, -8))),
-        ("12345678900000000000", Ok((123456789, 11))),
-        ("0.000000001", Ok((1, -9))),
-        ("1000000000000000000000000000000000000000", Ok((1, 39))),
-        (
-            "10000000000000000000000000000000000000000",
-            Err(DecimalError::TooLong),
-        ),
-        ("0.00000000000000000000000000000000000000", Ok((0, 0))),
-        (
-            "0.000000000000000000000000000000000000000",
-            Err(DecimalError::TooLong),
-        ),
-        ("0.00000000000000000000000000000000000001", Ok((1, -38))),
-        ("100000001", Ok((100000001, 0))),
-        ("1000000001", Err(DecimalError::TooManyDigits)),
-        ("10.01", Ok((1001, -2))),
-        ("0010.0100", Ok((1001, -2))),
-        (".", Err(DecimalError::Empty)),
-        ("..", Err(DecimalError::BadByte { at: 1 })),
-        ("1..", Err(DecimalError::BadByte { at: 2 })),
-        ("a", Err(DecimalError::BadByte { at: 0 })),
-        ("9999999990", Ok((999999999, 1))),
-        (
-            "xxxxxxxxxxxxxxxxxxxxxxxxxxxxxxxxxxxxxxxxx",
-            Err(DecimalError::TooLong),
-        ),
-        (
-            "11111111111111111111111111111111111111111",
-            Err(DecimalError::TooLong),
-        ),
-    ] {
-        let read = decimal(text.as_bytes()).map(|q| (q.digits, q.exp));
-        assert_eq!(rt; read, want, "{text}");
+    for (text, digits, exp) in DECIMALS {
+        let read = decimal(text.as_bytes()).ok().map(|q| (q.digits, q.exp));
+        assert_eq!(rt; read, Some((digits, exp)), "{text}");
+    }
+}
+
+#[test]
+fn a_decimal_is_refused_for_its_first_cause(rt: HostRuntime) {
+    for (text, error) in REFUSED {
+        assert_eq!(rt; decimal(text.as_bytes()).err(), Some(error), "{text}");
     }
 }
 
