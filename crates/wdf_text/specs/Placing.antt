@@ -1,5 +1,6 @@
 -- The words behind a place of a text, byte by byte: how a cursor's place stands for the words left.
 use Rattle.std.specs.Prelude.{ℕ, ◌+◌, ◌≤◌, Bool, true, not, ◌&&◌, ◌||◌, ◌==◌, if◌then◌else◌, List, [], ◌∷◌, ◌++◌, length}
+use Rattle.wdf_text.specs.declared.cursor.TheConstants.{MAX_TEXT}
 use Rattle.wdf_text.specs.declared.word.Word.{Word}
 use Rattle.wdf_text.specs.declared.place.Place.{Place}
 use Rattle.wdf_text.specs.Words.{is_blank, is_line_end, word_here}
@@ -33,5 +34,5 @@ pub record IsPlaced (text : List ℕ) (place : Place) : Type 0 where
 
 -- what a cursor keeps
 pub record IsKept (text : List ℕ) (place : Place) : Type 0 where
-  pub short : length text ≤ 1048576
+  pub short : length text ≤ MAX_TEXT
   pub placed : IsPlaced text place

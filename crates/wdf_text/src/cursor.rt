@@ -68,7 +68,7 @@ fn is_word_byte(text: &[u8], at: usize) -> bool
 
 // The place of the next word's first byte, or the end of the text.
 fn next_place(text: &[u8], from: Place) -> Place
-    requires short { length text.now ≤ 1048576 }
+    requires short { length text.now ≤ MAX_TEXT }
     requires placed { IsPlaced text.now from }
     ensures placed { IsPlaced text.now result }
     ensures same { words_after (drop result.at text.now) result.line result.at result.column 0
