@@ -5,3 +5,4 @@ mod PaddingLemmas
 mod PlacingLemmas
 mod RefusalLemmas
 mod SignificanceLemmas
+mod ValueLemmas

@@ -6,6 +6,7 @@ use Rattle.wdf_text.specs.declared.quantity.Quantity.{Quantity}
 use Rattle.wdf_text.specs.declared.decimal_error.DecimalError.{DecimalError}
 use Rattle.wdf_text.specs.declared.decimal_error.DecimalError.TheVariants.{TooLong, BadByte, Empty, TooManyDigits}
 use Rattle.wdf_text.specs.Decimals.{Answers, HasNoStray, IsDecimal, IsFirstStray, IsValueOf, Refuses}
+use Rattle.wdf_text.proofs.ValueLemmas.{one_value}
 
 -- a first byte that stands where it may not is one
 first_stray : (text : List ℕ) (a b : ℕ) → IsFirstStray text a → IsFirstStray text b → a ≡ b
@@ -59,3 +60,7 @@ accepted text (Err d) a = (λ h. absurd (false≢true h), λ g. absurd (not_refu
 pub valued : (text : List ℕ) (r : Result Quantity DecimalError) → Answers text r → IfOk r (IsValueOf text)
 valued text (Ok q) a = a.1
 valued text (Err d) a = tt
+
+pub only : (text : List ℕ) (r : Result Quantity DecimalError) → Answers text r → (p : Quantity) → IsValueOf text p → IfOk r (λ q. (p.digits ≡ q.digits) × (p.exp ≡ q.exp))
+only text (Ok q) a p v = one_value text p q v a.1
+only text (Err d) a p v = tt

@@ -38,7 +38,7 @@ behind_zero : (ds : List ℕ) → suffix_len is_zero (ds ++ (0 ∷ [])) ≡ 1 + 
 behind_zero ds = ap (prefix_len is_zero) (reverse-append ds (0 ∷ []))
 
 -- a power of ten, one higher
-tens : (n : ℕ) → 10 ^ (n + 1) ≡ 10 ^ n * 10
+pub tens : (n : ℕ) → 10 ^ (n + 1) ≡ 10 ^ n * 10
 tens n = ap (λ (k : ℕ). 10 ^ k) (add-one n) ∙ pow-suc 10 n
 
 -- no digit is read

@@ -2,6 +2,7 @@
 
 ghost use Rattle.std.specs.Prelude.{◌≡◌, ◌↔◌, ◌+◌, ◌<◌, ◌≤◌, ◌%◌, ◌+ℤ◌, pos, ℕ, IfOk, IsOk, MatchOption, Err, length, position};
 ghost use Rattle.wdf_text.specs.Decimals.{Answers, HasBadByte, HasNoDigit, HasNoStray, HasTooManyDigits, IsDecimal, IsFirstStray, IsTooLong, IsValueOf, digit_bytes, has_digit, is_dot, places, significant_digits};
+ghost use Rattle.wdf_text.specs.declared.quantity.Quantity.{Quantity};
 ghost use Rattle.wdf_text.specs.Numbers.{digits_of_bytes};
 ghost use Rattle.wdf_text.specs.Significance.{IsSignificant};
 
@@ -114,6 +115,9 @@ fn read_decimal(text: &[u8]) -> Result<Quantity, DecimalError>
 pub fn decimal(text: &[u8]) -> Result<Quantity, DecimalError>
     ensures read { IsOk result ↔ IsDecimal text.now }
     ensures value { IfOk result (IsValueOf text.now) }
+
+    // No other quantity is the number of the text.
+    ensures one_form { (p : Quantity) → IsValueOf text.now p → IfOk result (λ q. (p.digits ≡ q.digits) × (p.exp ≡ q.exp)) }
 
     // Each refusal comes exactly where its cause is there, and none before it.
     ensures too_long { (result ≡ Err DecimalError.TooLong) ↔ IsTooLong text.now }

@@ -1,5 +1,5 @@
 use Rattle.wdf_text.specs.declared.decimal_error.DecimalError.TheVariants.{TooLong, BadByte, Empty, TooManyDigits}
-use Rattle.wdf_text.proofs.RefusalLemmas.{accepted, exactly, valued}
+use Rattle.wdf_text.proofs.RefusalLemmas.{accepted, exactly, only, valued}
 use Rattle.wdf_text.proofs.decimals.decimal.Goals as goal
 
 pub returns-clause-read : goal.returns-clause-read
@@ -19,3 +19,6 @@ returns-clause-empty c = exactly c.args.text.now c.read_decimal.result c.read_de
 
 pub returns-clause-too_many_digits : goal.returns-clause-too_many_digits
 returns-clause-too_many_digits c = exactly c.args.text.now c.read_decimal.result c.read_decimal.ensures TooManyDigits
+
+pub returns-clause-one_form : goal.returns-clause-one_form
+returns-clause-one_form c = only c.args.text.now c.read_decimal.result c.read_decimal.ensures
