@@ -1,0 +1,13 @@
+ghost use Rattle.std.specs.Prelude.{◌≡◌, ◌%◌, pos};
+
+/// A decimal number that is not negative, `digits · 10^exp`.
+///
+/// It is 0 with exponent 0, or `digits` is not divisible by 10; so each number has one form.
+#[derive(Clone, Copy, Debug, PartialEq, Eq)]
+pub struct Quantity {
+    /// Not divisible by 10, or 0.
+    pub digits: u64,
+    /// The power of ten, 0 where `digits` is 0.
+    pub exp: i8,
+    ghost normal: { digits % 10 ≡ 0 → (digits ≡ 0) × (exp ≡ pos 0) },
+}
