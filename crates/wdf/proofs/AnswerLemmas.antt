@@ -11,7 +11,7 @@ use Rattle.wdf_wav.specs.PcmStream.{samples_of, data_of}
 use Rattle.wdf.specs.declared.netlist.Netlist.{Netlist}
 use Rattle.wdf.specs.declared.status.Status.{Status}
 use Rattle.wdf.specs.declared.status.Status.TheVariants.{Done, Truncated, ReadFault, WriteFault, LoadFault, Missing, FileTooLarge, NoMemory, Unbuilt}
-use Rattle.wdf.specs.Answer.{WritesLoadWaves, GainsFront, EndsEarly, RunStops, frames_of, held}
+use Rattle.wdf.specs.Answer.{WritesLoadWaves, GainsFront, EndsEarly, RunStops, frames_of, held_frames}
 use Rattle.wdf.specs.Circuit.{two_leaves, root_multiplier}
 use Rattle.wdf.specs.Opening.{Opens, WritesWave, StopsWave, EndsWave, WaveStops}
 use Rattle.wdf.specs.Progress.{data_for, IsFront}
@@ -43,7 +43,7 @@ is_written m rate h body few form =
     let none : pad_size h ≡ 0 = ap (λ (n : ℕ). n % 2) (size-run rate h form) ∙ mul-mod_left h.frames 2 in
     let bytes = head_bytes_of h ++ data_for m body in
     record {
-      frames = bytes;
+      unpadded = bytes;
       result = is_result m rate h body few form;
       padded = sym (append-nil bytes) ∙ ap (λ (n : ℕ). bytes ++ replicate n 0) (sym none);
     }
@@ -95,16 +95,16 @@ whole-frames count align body more two size =
 -- the frames that were filtered are the first of those that the input holds
 gains : SamplesAppend 16 → DataAppends 16 → (m rate count : ℕ) (h : Head) (body more bytes : List ℕ) → IsRunHead rate h → length body ≡ count * 2 → count ≤ h.frames
     → IsFront bytes (head_bytes_of h ++ data_for m body)
-    → IsFront bytes (head_bytes_of h ++ data_for m (frames_of h (held h (body ++ more)) (body ++ more)))
+    → IsFront bytes (head_bytes_of h ++ data_for m (frames_of h (held_frames h (body ++ more)) (body ++ more)))
 gains read coded m rate count h body more bytes form size within front =
     let align = align-run rate h form in
-    let k = held h (body ++ more) * block_align h in
+    let k = held_frames h (body ++ more) * block_align h in
     let there = whole-frames count (block_align h) body more align size in
-    let few : count ≤ held h (body ++ more) = omega arith in
-    let times : held h (body ++ more) * block_align h ≡ held h (body ++ more) * 2 = ap (λ (a : ℕ). held h (body ++ more) * a) align in
+    let few : count ≤ held_frames h (body ++ more) = omega arith in
+    let times : held_frames h (body ++ more) * block_align h ≡ held_frames h (body ++ more) * 2 = ap (λ (a : ℕ). held_frames h (body ++ more) * a) align in
     let many : count * 2 ≤ k = omega arith in
     let next = take (k - count * 2) more in
-    let cut : frames_of h (held h (body ++ more)) (body ++ more) ≡ body ++ next = take-past k (count * 2) body more size many in
+    let cut : frames_of h (held_frames h (body ++ more)) (body ++ more) ≡ body ++ next = take-past k (count * 2) body more size many in
     record {
       behind = front.behind ++ data_for m next;
       whole = ap (λ (l : List ℕ). head_bytes_of h ++ data_for m l) cut
@@ -125,10 +125,10 @@ gains_front read coded n h a b c x y opens stop =
       form = opens.form;
       rest = there.rest;
       input = there.told;
-      whole = head_bytes_of h ++ data_for m (frames_of h (held h there.rest) there.rest);
-      result = is_result m n.rate h (frames_of h (held h there.rest) there.rest) (root_few n.source_ohms n.load_ohms) opens.form;
+      whole = head_bytes_of h ++ data_for m (frames_of h (held_frames h there.rest) there.rest);
+      result = is_result m n.rate h (frames_of h (held_frames h there.rest) there.rest) (root_few n.source_ohms n.load_ohms) opens.form;
       bytes = stop.bytes;
-      front = subst (λ (l : List ℕ). IsFront stop.bytes (head_bytes_of h ++ data_for m (frames_of h (held h l) l))) (sym parts)
+      front = subst (λ (l : List ℕ). IsFront stop.bytes (head_bytes_of h ++ data_for m (frames_of h (held_frames h l) l))) (sym parts)
           (gains read coded m n.rate stop.count h stop.body (stop.tail ++ there.more) stop.bytes opens.form stop.size stop.within stop.front);
       output = stop.output;
     }
@@ -159,7 +159,7 @@ ends_early n count h a b c x y opens stop =
       form = opens.form;
       rest = there.rest;
       input = there.told;
-      frames = ap (λ (k : ℕ). k / block_align h) size ∙ part-frames count (block_align h) (length stop.tail) align stop.part;
+      whole_frames = ap (λ (k : ℕ). k / block_align h) size ∙ part-frames count (block_align h) (length stop.tail) align stop.part;
       below = stop.below;
       bytes = head_bytes_of h ++ data_for m stop.body;
       result = subst (λ (l : List ℕ). IsResult (two_leaves m) h l (head_bytes_of h ++ data_for m stop.body)) (sym first)

@@ -9,7 +9,7 @@ use Rattle.wdf.specs.declared.netlist.Netlist.{Netlist}
 use Rattle.wdf.specs.declared.status.Status.{Status}
 use Rattle.wdf.specs.declared.status.Status.TheVariants.{Done, Truncated, ReadFault, WriteFault, LoadFault, Missing, FileTooLarge, NoMemory, Unbuilt}
 use Rattle.wdf.specs.Answer.{EndsEarly, AnswerMeets}
-use Rattle.wdf.specs.Complete.{IsWhole}
+use Rattle.wdf.specs.Complete.{IsComplete}
 use Rattle.wdf.specs.Loading.{Holds, Loads}
 use Rattle.wdf.specs.NetlistText.{Stands}
 use Rattle.wdf.specs.Operands.{IsOrder}
@@ -37,14 +37,14 @@ some-same : (a b : List ℕ) → Some a ≡ Some b → a ≡ b
 some-same a b e = cc
 
 -- so what was loaded is that file
-held-same : (files : Option Files) (words : List (String Global)) (left : Option (List ℕ)) (w : IsWhole files words left) (other : List ℕ)
+held-same : (files : Option Files) (words : List (String Global)) (left : Option (List ℕ)) (w : IsComplete files words left) (other : List ℕ)
     → Holds files words other → other ≡ w.file
 held-same files words left w other h =
     sym (some-same w.file other
-    (told-file w.told files w.name h.name w.file (λ o. o ≡ Some other) w.files_told (same-name words w.name h.name w.order h.order) w.held h.held))
+    (told-file w.told files w.name h.name w.file (λ o. o ≡ Some other) w.files_told (same-name words w.name h.name w.order h.order) w.found h.found))
 
 -- and its netlist is the one that it stands for
-netlist-same : (files : Option Files) (words : List (String Global)) (left : Option (List ℕ)) (w : IsWhole files words left) (n : Netlist)
+netlist-same : (files : Option Files) (words : List (String Global)) (left : Option (List ℕ)) (w : IsComplete files words left) (n : Netlist)
     → Loads files words n → w.netlist ≡ n
 netlist-same files words left w n loads =
     loads.only w.netlist (subst (λ (f : List ℕ). Stands f w.netlist) (sym (held-same files words left w loads.file loads.holds)) w.stands)
@@ -67,11 +67,11 @@ not-early n count left x y h body rest form size is e =
     let frames = head-frames n.rate h e.head form e.form heads in
     let many : length e.rest ≡ length body + length rest = ap length (sym rests) ∙ length-append body rest in
     let bytes : length body ≡ h.frames * 2 = size ∙ size-run n.rate h form in
-    let halves : length e.rest / 2 ≡ count = ap (λ (a : ℕ). length e.rest / a) (sym (align-run n.rate e.head e.form)) ∙ e.frames in
+    let halves : length e.rest / 2 ≡ count = ap (λ (a : ℕ). length e.rest / a) (sym (align-run n.rate e.head e.form)) ∙ e.whole_frames in
     absurd (omega (arith, e.below))
 
 -- nothing but Done, want of memory and a fault of an object is left
-pub complete : (files : Option Files) (words : List (String Global)) (a c x y : Option (List ℕ)) (s : Status) → IsWhole files words a
+pub complete : (files : Option Files) (words : List (String Global)) (a c x y : Option (List ℕ)) (s : Status) → IsComplete files words a
     → AnswerMeets files words a c x y s → (s ≡ LoadFault → ⊥) → (s ≡ ReadFault → ⊥) → (s ≡ WriteFault → ⊥) → (s ≡ Done) ⊎ (s ≡ NoMemory)
 complete files words a c x y Done w meets load read write = inl refl
 complete files words a c x y NoMemory w meets load read write = inr refl
@@ -81,12 +81,12 @@ complete files words a c x y WriteFault w meets load read write = absurd (write 
 complete files words a c x y (Missing word) w meets load read write =
     let lacks = meets.1 in
     let none : Some w.file ≡ None =
-    told-file w.told files w.name lacks.name w.file (λ o. o ≡ None) w.files_told (same-name words w.name lacks.name w.order lacks.order) w.held lacks.lacks in
+    told-file w.told files w.name lacks.name w.file (λ o. o ≡ None) w.files_told (same-name words w.name lacks.name w.order lacks.order) w.found lacks.lacks in
     absurd (cc)
 complete files words a c x y (FileTooLarge word) w meets load read write =
     let large = meets.1 in
     let more : most_bytes < length w.file =
-    told-file w.told files w.name large.name w.file (λ o. IsLarger o most_bytes) w.files_told (same-name words w.name large.name w.order large.order) w.held large.larger in
+    told-file w.told files w.name large.name w.file (λ o. IsLarger o most_bytes) w.files_told (same-name words w.name large.name w.order large.order) w.found large.larger in
     absurd (omega (arith, w.small))
 complete files words a c x y (Truncated count) w meets load read write =
     let same = netlist-same files words a w meets.netlist meets.loads in

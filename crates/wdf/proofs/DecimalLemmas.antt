@@ -4,7 +4,7 @@ use Rattle.std.specs.Int.Digits.{AllBelowBase, digits_of, number_from_digits, nu
 use Rattle.std.proofs.lemmas.List.{length-map, length-take, map-append, take-append-drop, take_more}
 use Rattle.std.proofs.lemmas.Int.Digits.{all_below_base_digits_of, digits_of_step, first_digits_of, number_after_append, number_after_ge, number_digits_of}
 use Rattle.std.proofs.lemmas.Bool.{ne_eqb}
-use Rattle.wdf.specs.NetlistLines.{Lacks}
+use Rattle.wdf.specs.NetlistLines.{LacksByte}
 use Rattle.wdf.specs.NetlistText.{decimal}
 
 -- the number that a word of digits writes
@@ -84,10 +84,10 @@ more word i value d l front here small some =
     take_more word i 0 l ∙ (λ j. front j ++ (here j ∷ [])) ∙ sym (decimal-push value d small some)
 
 -- a list of digits has no line end
-digits_lack : (ds : List ℕ) → Lacks 10 (map (λ (d : ℕ). d + 48) ds)
+digits_lack : (ds : List ℕ) → LacksByte 10 (map (λ (d : ℕ). d + 48) ds)
 digits_lack [] = refl
 digits_lack (d ∷ ds) = λ i. not (ne_eqb (d + 48) 10 (omega arith) i) && digits_lack ds i
 
 -- nor has a number's word
-pub no_line_end_in : (n : ℕ) → Lacks 10 (decimal n)
+pub no_line_end_in : (n : ℕ) → LacksByte 10 (decimal n)
 no_line_end_in n = digits_lack (digits_of 10 n)

@@ -25,7 +25,7 @@ last_number-head : (rate : ℕ) (bytes : List ℕ) (h : Head) → IsRunHead rate
 unfolding head_bytes_of
 last_number-head rate bytes h run e =
     let size : data_size h ≡ h.frames * 2 = size-run rate h run in
-    let few = run.frames in
+    let few = run.few in
     ap last_number e ∙ from_le_bytes-to_le_bytes_4 (data_size h) (omega arith) ∙ size
 
 -- so that number tells the frames

@@ -11,7 +11,7 @@ use Rattle.wdf_law.specs.Step.{Waves, ends, forks, Frame, IsStep}
 use Rattle.wdf_law.specs.Run.{IsRun}
 use Rattle.wdf_law.specs.OutputRule.{drive, load_wave, output_of}
 use Rattle.wdf.specs.Circuit.{two_leaves}
-use Rattle.wdf.specs.Plan.{guard, down}
+use Rattle.wdf.specs.Plan.{guard, down_shift}
 use Rattle.wdf.specs.StepLaw.{IsLoadWave}
 use Rattle.wdf.specs.TwoLeafWave.{wave_of, values_of}
 use Rattle.wdf.specs.Written.{inputs, outputs, GivesOutputs}
@@ -84,19 +84,19 @@ runs : (m : ℕ) (zs samples : List ℤ) → m ≤ 16384 → IsRun (two_leaves m
 runs m zs [] few = tt
 runs m zs (s ∷ samples) few = (solves m _ (drive guard s) few, runs m _ samples few)
 
-only_values : (m bits : ℕ) (zs samples : List ℤ) (frames : List Frame) → m ≤ 16384 → IsRun (two_leaves m) zs (inputs samples) frames
-    → outputs (two_leaves m) bits frames ≡ values_of m bits samples
+only_values : (m bits : ℕ) (zs samples : List ℤ) (steps : List Frame) → m ≤ 16384 → IsRun (two_leaves m) zs (inputs samples) steps
+    → outputs (two_leaves m) bits steps ≡ values_of m bits samples
 only_values m bits zs [] [] few run = refl
-only_values m bits zs [] (s ∷ frames) few run = absurd run
+only_values m bits zs [] (s ∷ steps) few run = absurd run
 only_values m bits zs (e ∷ samples) [] few run = absurd run
-only_values m bits zs (e ∷ samples) (s ∷ frames) few run =
+only_values m bits zs (e ∷ samples) (s ∷ steps) few run =
     let here = only_wave m _ (drive guard e) s.left s.right s.b1 s.b2 few run.0 in
-    let others = only_values m bits _ samples frames few run.1 in
-    λ i. output_of down bits (here i) ∷ others i
+    let others = only_values m bits _ samples steps few run.1 in
+    λ i. output_of down_shift bits (here i) ∷ others i
 
 -- the reference run on the samples has these output values, and no others
 pub gives : (m bits : ℕ) (samples : List ℤ) → m ≤ 16384 → GivesOutputs (two_leaves m) bits samples (values_of m bits samples)
 gives m bits samples few = record {
   run = (map (λ (s : ℤ). frame_of m (s *ℤ pos (2 ^ guard))) samples, runs m _ samples few);
-  each = λ frames run. only_values m bits _ samples frames few run;
+  each = λ steps run. only_values m bits _ samples steps few run;
 }

@@ -9,7 +9,7 @@ use Rattle.wdf.specs.declared.netlist.Netlist.{Netlist}
 use Rattle.wdf.specs.declared.status.Status.{Status}
 use Rattle.wdf.specs.declared.status.Status.TheVariants.{Done, Truncated, ReadFault, WriteFault, LoadFault, Missing, FileTooLarge, NoMemory, Unbuilt}
 use Rattle.wdf.specs.Circuit.{network_for}
-use Rattle.wdf.specs.Loading.{Loads, IsOtherForm, Lacks, IsTooLarge}
+use Rattle.wdf.specs.Loading.{Loads, IsOtherForm, LacksFile, IsTooLarge}
 use Rattle.wdf.specs.Opening.{NoHead}
 use Rattle.wdf.specs.Operands.{IsOrder}
 use Rattle.wdf.specs.Progress.{IsFront}
@@ -34,8 +34,8 @@ abbrev pub frames_of : Head → ℕ → List ℕ → List ℕ
 frames_of head count rest = take (count * block_align head) rest
 
 -- how many of the stated frames are there whole
-abbrev pub held : Head → List ℕ → ℕ
-held head rest = min head.frames (length rest / block_align head)
+abbrev pub held_frames : Head → List ℕ → ℕ
+held_frames head rest = min head.frames (length rest / block_align head)
 
 -- The input begins with a header of the form. The output gained the front of the result for the stated frames that
 -- the input holds whole.
@@ -45,7 +45,7 @@ pub record GainsFront (n : Netlist) (left written written' : Option (List ℕ)) 
   pub rest : List ℕ
   pub input : Told left (λ bytes. bytes ≡ head_bytes_of head ++ rest)
   pub whole : List ℕ
-  pub result : IsResult (network_for n) head (frames_of head (held head rest) rest) whole
+  pub result : IsResult (network_for n) head (frames_of head (held_frames head rest) rest) whole
   pub bytes : List ℕ
   pub front : IsFront bytes whole
   pub output : Appends written written' bytes
@@ -57,7 +57,7 @@ pub record EndsEarly (n : Netlist) (count : ℕ) (left written written' : Option
   pub form : IsRunHead n.rate head
   pub rest : List ℕ
   pub input : Told left (λ bytes. bytes ≡ head_bytes_of head ++ rest)
-  pub frames : length rest / block_align head ≡ count
+  pub whole_frames : length rest / block_align head ≡ count
   pub below : count < head.frames
   pub bytes : List ℕ
   pub result : IsResult (network_for n) head (frames_of head count rest) bytes
@@ -104,7 +104,7 @@ AnswerMeets files words left left' written written' (Truncated count) = StopsWor
 AnswerMeets files words left left' written written' ReadFault = StopsWords files words left left' written written' ReadFault
 AnswerMeets files words left left' written written' WriteFault = StopsWords files words left left' written written' WriteFault
 AnswerMeets files words left left' written written' LoadFault = ((name : List ℕ) × IsOrder words name) × Keeps written written'
-AnswerMeets files words left left' written written' (Missing word) = (word ≡ 1) × Lacks files words × Keeps written written'
+AnswerMeets files words left left' written written' (Missing word) = (word ≡ 1) × LacksFile files words × Keeps written written'
 AnswerMeets files words left left' written written' (FileTooLarge word) = (word ≡ 1) × IsTooLarge files words × Keeps written written'
 AnswerMeets files words left left' written written' NoMemory = ((name : List ℕ) × IsOrder words name) × Keeps written written'
 AnswerMeets files words left left' written written' (Unbuilt part) = IsUnbuilt files words left left' written written' part

@@ -12,13 +12,13 @@ use Rattle.wdf.specs.WaveForm.{IsRunHead}
 
 -- The words are of the form, the told file of their name stands for a netlist, and the told input begins with a
 -- header of the form and all the frames that it states.
-pub record IsWhole (files : Option Files) (words : List (String Global)) (left : Option (List ℕ)) : Type 0 where
+pub record IsComplete (files : Option Files) (words : List (String Global)) (left : Option (List ℕ)) : Type 0 where
   pub told : Files
   pub files_told : files ≡ Some told
   pub name : List ℕ
   pub order : IsOrder words name
   pub file : List ℕ
-  pub held : file_of told name ≡ Some file
+  pub found : file_of told name ≡ Some file
   pub small : length file ≤ most_bytes
   pub netlist : Netlist
   pub stands : Stands file netlist

@@ -14,7 +14,7 @@ use Rattle.wdf.specs.Told.{Told}
 pub record Holds (files : Option Files) (words : List (String Global)) (file : List ℕ) : Type 0 where
   pub name : List ℕ
   pub order : IsOrder words name
-  pub held : Told files (λ fs. file_of fs name ≡ Some file)
+  pub found : Told files (λ fs. file_of fs name ≡ Some file)
   pub small : length file ≤ most_bytes
 
 -- that file stands for the netlist, and for no other
@@ -29,7 +29,7 @@ abbrev pub NoOrder : List (String Global) → Type 0
 NoOrder words = (name : List ℕ) → IsOrder words name → ⊥
 
 -- the shelf lacks the words' file
-pub record Lacks (files : Option Files) (words : List (String Global)) : Type 0 where
+pub record LacksFile (files : Option Files) (words : List (String Global)) : Type 0 where
   pub name : List ℕ
   pub order : IsOrder words name
   pub lacks : Told files (λ fs. file_of fs name ≡ None)
@@ -53,7 +53,7 @@ IsOtherForm files words part = ((part ≡ 1) × NoOrder words) ⊎ ((part ≡ 2)
 -- why no netlist was loaded
 abbrev pub LoadRefuses : Option Files → List (String Global) → Status → Type 0
 LoadRefuses files words (Unbuilt part) = IsOtherForm files words part
-LoadRefuses files words (Missing word) = (word ≡ 1) × Lacks files words
+LoadRefuses files words (Missing word) = (word ≡ 1) × LacksFile files words
 LoadRefuses files words (FileTooLarge word) = (word ≡ 1) × IsTooLarge files words
 LoadRefuses files words LoadFault = (name : List ℕ) × IsOrder words name
 LoadRefuses files words NoMemory = (name : List ℕ) × IsOrder words name

@@ -6,8 +6,8 @@ use Rattle.wdf.specs.declared.netlist_lines.Lines.{Lines}
 use Rattle.wdf.specs.NetlistText.{IsName, Names, element_line, line_end, rate_line}
 
 -- none of these bytes is b
-abbrev pub Lacks : ℕ → List ℕ → Type 0
-Lacks b bytes = IsTrue (list_all (λ c. not (c == b)) bytes)
+abbrev pub LacksByte : ℕ → List ℕ → Type 0
+LacksByte b bytes = IsTrue (list_all (λ c. not (c == b)) bytes)
 
 -- what the line of an element may say: its name, its two nodes and its ohms
 pub record IsElement (name from to : List ℕ) (ohms : ℕ) : Type 0 where

@@ -13,8 +13,8 @@ guard = 4
 abbrev pub shift : ℕ
 shift = 0
 
-abbrev pub down : ℕ
-down = guard + shift
+abbrev pub down_shift : ℕ
+down_shift = guard + shift
 
 -- the most frames of a run
 abbrev pub most_frames : ℕ

@@ -8,4 +8,4 @@ pub record IsRunHead (rate : ℕ) (head : Head) : Type 0 where
   pub channels : head.channels ≡ 1
   pub bits : head.bits ≡ 16
   pub same_rate : head.rate ≡ rate
-  pub frames : head.frames ≤ most_frames
+  pub few : head.frames ≤ most_frames

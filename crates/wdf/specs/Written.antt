@@ -2,25 +2,25 @@
 use Rattle.std.specs.Prelude.{◌≡◌, ℕ, ℤ, List, ◌++◌, map, replicate}
 use Rattle.wdf_law.specs.Network.{Network}
 use Rattle.wdf_law.specs.Step.{Frame}
-use Rattle.wdf_law.specs.Run.{IsRun, rest}
+use Rattle.wdf_law.specs.Run.{IsRun, at_rest}
 use Rattle.wdf_law.specs.OutputRule.{drive, load_wave, output_of}
 use Rattle.wdf_wav.specs.declared.head.Head.{Head}
 use Rattle.wdf_wav.specs.Header.{head_bytes_of, pad_size}
 use Rattle.wdf_wav.specs.PcmStream.{samples_of, data_of}
-use Rattle.wdf.specs.Plan.{guard, down}
+use Rattle.wdf.specs.Plan.{guard, down_shift}
 
 -- the source's values for these samples
 abbrev pub inputs : List ℤ → List (ℕ → ℤ)
 inputs samples = map (drive guard) samples
 
--- the output values of a run's frames, at this number of bits
+-- the output values of a run's steps, at this number of bits
 abbrev pub outputs : Network → ℕ → List Frame → List ℤ
-outputs n bits frames = map (λ (s : Frame). output_of down bits (load_wave n s)) frames
+outputs n bits steps = map (λ (s : Frame). output_of down_shift bits (load_wave n s)) steps
 
 -- there is a reference run from rest on the samples, and each such run has these output values
 pub record GivesOutputs (n : Network) (bits : ℕ) (samples values : List ℤ) : Type 0 where
-  pub run : (frames : List Frame) × IsRun n (rest n) (inputs samples) frames
-  pub each : (frames : List Frame) → IsRun n (rest n) (inputs samples) frames → outputs n bits frames ≡ values
+  pub run : (steps : List Frame) × IsRun n (at_rest n) (inputs samples) steps
+  pub each : (steps : List Frame) → IsRun n (at_rest n) (inputs samples) steps → outputs n bits steps ≡ values
 
 -- the header, and the output values for the samples of body
 pub record IsResult (n : Network) (head : Head) (body bytes : List ℕ) : Type 0 where
@@ -30,6 +30,6 @@ pub record IsResult (n : Network) (head : Head) (body bytes : List ℕ) : Type 0
 
 -- the same of all frames, and the pad byte after data of odd size
 pub record IsWritten (n : Network) (head : Head) (body bytes : List ℕ) : Type 0 where
-  pub frames : List ℕ
-  pub result : IsResult n head body frames
-  pub padded : bytes ≡ frames ++ replicate (pad_size head) 0
+  pub unpadded : List ℕ
+  pub result : IsResult n head body unpadded
+  pub padded : bytes ≡ unpadded ++ replicate (pad_size head) 0

@@ -19,8 +19,8 @@ const WIDTH: u8 = 14;
 /// A sample enters as itself times 2^4.
 const SCALE: i64 = 16;
 
-/// An output is the load wave by 2^DOWN.
-const DOWN: u32 = 4;
+/// An output is the load wave by 2^DOWN_SHIFT.
+const DOWN_SHIFT: u32 = 4;
 
 /// The quantised network of a netlist: the source on the left of the root, and the load on the
 /// right.
@@ -95,15 +95,15 @@ fn limit(value: i64, most: i64) -> i64
     }
 }
 
-// The load wave by `2^down`, towards zero, as the nearest value that `bits` bits hold.
-fn output(wave: i64, down: u32, bits: u16) -> i64
+// The load wave by `2^down_shift`, towards zero, as the nearest value that `bits` bits hold.
+fn output(wave: i64, down_shift: u32, bits: u16) -> i64
     requires width { IsSampleWidth bits }
-    requires few { down ≤ 33 }
+    requires few { down_shift ≤ 33 }
     requires magnitude { unsigned_abs wave < 2 ^ 63 }
-    ensures value { result ≡ output_of down bits wave }
+    ensures value { result ≡ output_of down_shift bits wave }
     ensures range { IsSampleValue bits result }
 {
-    limit(quotient(wave, down), most(bits))
+    limit(quotient(wave, down_shift), most(bits))
 }
 
 /// What the network makes of one sample of `bits` bits.
@@ -114,5 +114,5 @@ pub(crate) fn filtered(net: &Net, sample: i64, bits: u16) -> i64
     ensures value { result ≡ value_of net.now.m bits sample }
     ensures range { IsSampleValue bits result }
 {
-    output(load_wave(net, times(sample, SCALE)), DOWN, bits)
+    output(load_wave(net, times(sample, SCALE)), DOWN_SHIFT, bits)
 }

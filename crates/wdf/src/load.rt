@@ -16,7 +16,7 @@ const MOST_BYTES: usize = 1_048_576;
 
 // The bytes of the file of this name, which stands in word 1.
 fn load_text<H: Shelf>(alloc: Global, shelf: &mut H, name: &str) -> Result<Vec<u8>, Status>
-    ensures held { IfOk result (λ v. Told (H.files shelf.old) (λ fs. file_of fs name.now ≡ Some v.items)) }
+    ensures found { IfOk result (λ v. Told (H.files shelf.old) (λ fs. file_of fs name.now ≡ Some v.items)) }
     ensures small { IfOk result (λ v. vec_len v ≤ 1048576) }
     ensures refused { IfErr result (TextRefuses (H.files shelf.old) name.now) }
     ensures load { IsErrOf result Status.LoadFault → Rose (H.faults shelf.old) (H.faults shelf.new) }

@@ -1,7 +1,8 @@
 // The numbers of a network of a source and a load: port ratios, and the multiplier between two ports.
-ghost use Rattle.std.specs.Prelude.{◌≡◌, ◌≤◌, ◌^◌};
+ghost use Rattle.std.specs.Prelude.{◌≡◌, ◌≤◌, ◌*◌, ◌^◌};
+ghost use Rattle.wdf_frac.specs.Units.{nearest};
 ghost use Rattle.wdf.specs.PortRatio.{port_ratio};
-ghost use Rattle.wdf.specs.Multiplier.{multiplier, nearest};
+ghost use Rattle.wdf.specs.Multiplier.{multiplier};
 
 use wdf_frac::{Frac, Scaled};
 
@@ -48,7 +49,7 @@ fn nearest(x: u64, sum: u128, k: u8) -> u128
     requires some { 1 ≤ sum }
     requires fits { sum ≤ 2 ^ 63 }
     requires few { k ≤ 20 }
-    ensures { result ≡ nearest (2 ^ k) x sum }
+    ensures { result ≡ nearest (2 ^ k * x) sum }
 {
     (2 * (u128::from(x) << k) + sum) / (2 * sum)
 }

@@ -2,7 +2,7 @@ ghost use Rattle.std.specs.Prelude.{◌≡◌, ◌≤◌, ◌⊎◌, ℕ, IfOk, 
 ghost use Rattle.wdf_io.specs.Causes.{Rose};
 ghost use Rattle.wdf.specs.Answer.{WritesLoadWaves, RunStops, RunsWords, AnswerMeets};
 ghost use Rattle.wdf.specs.Circuit.{network_for};
-ghost use Rattle.wdf.specs.Complete.{IsWhole};
+ghost use Rattle.wdf.specs.Complete.{IsComplete};
 ghost use Rattle.wdf.specs.NetlistText.{IsInRange};
 
 use crate::circuit::network;
@@ -86,7 +86,7 @@ pub fn run<H: Shelf, I: Source, O: Sink, N: Sink>(
     ensures write_fault { result ≡ Status.WriteFault → Rose (O.faults out.old) (O.faults out.new) }
 
     // Where all is there and no count rose, only want of memory is in the way.
-    ensures complete { IsWhole (H.files shelf.old) words.now (I.left input.old)
+    ensures complete { IsComplete (H.files shelf.old) words.now (I.left input.old)
         → (Rose (H.faults shelf.old) (H.faults shelf.new) → ⊥) → (Rose (I.faults input.old) (I.faults input.new) → ⊥) → (Rose (O.faults out.old) (O.faults out.new) → ⊥)
         → (result ≡ Status.Done) ⊎ (result ≡ Status.NoMemory) }
 

@@ -3,7 +3,7 @@
 ghost use Rattle.std.specs.Prelude.{◌==◌, ◌≡◌, ◌∷◌, ◌++◌, ◌↔◌, IfSome, IsTrue, List, ℕ, position};
 ghost use Rattle.std.specs.List.{list_all};
 ghost use Rattle.std.specs.Option.{IsSomeAnd};
-ghost use Rattle.wdf.specs.NetlistLines.{Lacks};
+ghost use Rattle.wdf.specs.NetlistLines.{LacksByte};
 ghost use Rattle.wdf.specs.NetlistText.{IsName, is_name_byte, space};
 
 // The bytes of a word, and what is behind the byte that ends it.
@@ -31,7 +31,7 @@ fn place_of(text: &[u8], end: u8) -> Option<usize>
 // The word before the first `end` of a text.
 pub(crate) fn word_before(text: &[u8], end: u8) -> Option<Word<'_>>
     ensures parts { IfSome result (λ w. text.now ≡ w.bytes.now ++ end ∷ w.rest.now) }
-    ensures whole { (bytes rest : List ℕ) → Lacks end bytes → text.now ≡ bytes ++ end ∷ rest
+    ensures whole { (bytes rest : List ℕ) → LacksByte end bytes → text.now ≡ bytes ++ end ∷ rest
         → IsSomeAnd result (λ w. (w.bytes.now ≡ bytes) × (w.rest.now ≡ rest)) }
 {
     let count = place_of(text, end)?;

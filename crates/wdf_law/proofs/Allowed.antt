@@ -8,7 +8,7 @@ use Rattle.std.proofs.lemmas.List.{length-map}
 use Rattle.std.proofs.lemmas.List.Elements.{All-nil, All-cons}
 use Rattle.wdf_law.specs.declared.net_error.NetError.{NetError}
 use Rattle.wdf_law.specs.declared.net_error.NetError.TheVariants.{BadWidth, TooDeep, BadMultiplier}
-use Rattle.wdf_law.specs.Trees.{Plain, leaf, series, parallel, Element, elements_of, depth_of}
+use Rattle.wdf_law.specs.Trees.{AdaptorTree, leaf, series, parallel, LeafElement, elements_of, depth_of}
 use Rattle.wdf_law.specs.Network.{Network, IsNetwork, Adaptor, unit_of, elements, numbers, adaptors, sources, times_in}
 use Rattle.wdf_law.specs.Refusal.{unless, is_width, is_shallow, is_out, first_out, first_large, is_among, first_repeated, least_missing, number_fault, source_fault, refusal}
 use Rattle.wdf_law.proofs.Pigeonhole.{few, all_below}
@@ -154,13 +154,13 @@ are_numbers xs large double missing =
       once = λ i h. omega (arith, stands i h, split.once i);
     }
 
-one_source : (xs : List Element) → source_fault xs ≡ None → length xs ≡ 1
+one_source : (xs : List LeafElement) → source_fault xs ≡ None → length xs ≡ 1
 one_source [] h = absurd (cc)
 one_source (x ∷ []) h = refl
 one_source (x ∷ y ∷ xs) h = absurd (cc)
 
 -- a tree has a leaf
-some_leaf : (t : Plain) → 1 ≤ length (elements_of t)
+some_leaf : (t : AdaptorTree) → 1 ≤ length (elements_of t)
 some_leaf (leaf i k f) = omega arith
 some_leaf (series m l r) = omega (arith, some_leaf l, length-append (elements_of l) (elements_of r))
 some_leaf (parallel m l r) = omega (arith, some_leaf l, length-append (elements_of l) (elements_of r))
@@ -176,7 +176,7 @@ allowed n none =
     let depth = both (nat_le (depth_of n.left) 128) (nat_le (depth_of n.right) 128) (passed _ _ b.0) in
     let f = neither (option_map _ (first_large (numbers n))) _ d.0 in
     let g = neither (option_map _ (first_repeated [] (numbers n))) _ f.1 in
-    let count : length (numbers n) ≡ length (elements n) = omega (arith, length-map {A = Element} {B = ℕ}) in
+    let count : length (numbers n) ≡ length (elements n) = omega (arith, length-map {A = LeafElement} {B = ℕ}) in
     let are = are_numbers (numbers n) (unmapped _ _ f.0) (unmapped _ _ g.0) (unmapped _ _ g.1) in
     record {
       width = grind (arith, nat_tests);

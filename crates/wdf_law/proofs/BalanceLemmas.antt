@@ -8,19 +8,19 @@ use Rattle.wdf_algebra.specs.Squares.{square}
 use Rattle.wdf_algebra.specs.Truncation.{trunc}
 use Rattle.wdf_law.specs.declared.kind.Kind.{Kind}
 use Rattle.wdf_law.specs.declared.kind.Kind.TheVariants.{Res, Cap, Ind, Src}
-use Rattle.wdf_law.specs.Trees.{Plain, leaf, series, parallel}
+use Rattle.wdf_law.specs.Trees.{AdaptorTree, leaf, series, parallel}
 use Rattle.wdf_law.specs.Network.{Network, unit_of}
 use Rattle.wdf_law.specs.Elements.{signed}
 use Rattle.wdf_law.specs.Conductance.{conductance, series_first, series_second, parallel_first, parallel_second}
-use Rattle.wdf_law.specs.Step.{Waves, ends, forks, up, down, Follows, Frame, IsStep}
+use Rattle.wdf_law.specs.Step.{Waves, ends, forks, up_wave, down_wave, Follows, Frame, IsStep}
 use Rattle.wdf_law.specs.Energy.{if_reactance, stored_in, incident_in, absorbed_in, left_factor, right_factor, incident, absorbed}
 use Rattle.wdf_law.specs.Solved.{reflected}
-use Rattle.wdf_law.specs.Laws.{IsWhole, AreWhole, IsLossless}
+use Rattle.wdf_law.specs.Laws.{IsExact, AreExact, IsLossless}
 use Rattle.wdf_law.proofs.ElementLemmas.{reflects}
 use Rattle.wdf_law.proofs.Losses.{parallel_conserves, series_conserves, root_conserves, loses, loses_nothing}
 
 -- the sum of g·d² over the reactances, d being the wave that is sent there
-abbrev pub kept_in : ℕ → ℕ → Plain → Waves → ℕ
+abbrev pub kept_in : ℕ → ℕ → AdaptorTree → Waves → ℕ
 kept_in q f (leaf i k flip) (ends u d) = if_reactance k (conductance q f (leaf i k flip) * square d)
 kept_in q f (leaf i k flip) (forks u d b1 b2 b wl wr) = 0
 kept_in q f (series m l r) (ends u d) = 0
@@ -71,8 +71,8 @@ joined_exactly : (k1 a1 s1 i1 k2 a2 s2 i2 up1 up2 own1 down1 down2 own2 : ℕ)
     → (k1 + k2) + (a1 + a2) + own1 ≡ (s1 + s2) + (i1 + i2) + own2
 joined_exactly k1 a1 s1 i1 k2 a2 s2 i2 up1 up2 own1 down1 down2 own2 h1 h2 h = omega arith
 
-pub balance : (q f : ℕ) (x e : ℕ → ℤ) (t : Plain) (w : Waves) → 0 < q → Follows q x e f t w
-    → kept_in q f t w + absorbed_in q f t w + conductance q f t * square (up w) ≤ stored_in q x f t + incident_in q e f t + conductance q f t * square (down w)
+pub balance : (q f : ℕ) (x e : ℕ → ℤ) (t : AdaptorTree) (w : Waves) → 0 < q → Follows q x e f t w
+    → kept_in q f t w + absorbed_in q f t w + conductance q f t * square (up_wave w) ≤ stored_in q x f t + incident_in q e f t + conductance q f t * square (down_wave w)
 balance q f x e (leaf i k flip) (ends u d) unit h =
     let same = at_leaf q f i x e k flip u d (reflects k flip (x i) (e i) u d h) in omega arith
 balance q f x e (leaf i k flip) (forks u d b1 b2 b wl wr) unit h = absurd h
@@ -83,10 +83,10 @@ balance q f x e (series m l r) (forks u d b1 b2 b wl wr) unit h =
     let g = conductance q f (series m l r) in
     joined (kept_in q (series_first q f m r) l wl) (absorbed_in q (series_first q f m r) l wl) (stored_in q x (series_first q f m r) l) (incident_in q e (series_first q f m r) l)
     (kept_in q (series_second q f m l) r wr) (absorbed_in q (series_second q f m l) r wr) (stored_in q x (series_second q f m l) r) (incident_in q e (series_second q f m l) r)
-    (g1 * square (up wl)) (g2 * square (up wr)) (g * square u) (g1 * square (down wl)) (g2 * square (down wr)) (g * square d)
+    (g1 * square (up_wave wl)) (g2 * square (up_wave wr)) (g * square u) (g1 * square (down_wave wl)) (g2 * square (down_wave wr)) (g * square d)
     (balance q (series_first q f m r) x e l wl unit h.2)
     (balance q (series_second q f m l) x e r wr unit h.3)
-    (loses q g1 g2 g (up wl) (up wr) d b1 b2 b u (down wl) (down wr) unit (series_conserves q g1 g2 g (up wl) (up wr) d b1 b2 b h.0) h.1)
+    (loses q g1 g2 g (up_wave wl) (up_wave wr) d b1 b2 b u (down_wave wl) (down_wave wr) unit (series_conserves q g1 g2 g (up_wave wl) (up_wave wr) d b1 b2 b h.0) h.1)
 balance q f x e (parallel m l r) (ends u d) unit h = absurd h
 balance q f x e (parallel m l r) (forks u d b1 b2 b wl wr) unit h =
     let g1 = conductance q (parallel_first q f m r) l in
@@ -94,14 +94,14 @@ balance q f x e (parallel m l r) (forks u d b1 b2 b wl wr) unit h =
     let g = conductance q f (parallel m l r) in
     joined (kept_in q (parallel_first q f m r) l wl) (absorbed_in q (parallel_first q f m r) l wl) (stored_in q x (parallel_first q f m r) l) (incident_in q e (parallel_first q f m r) l)
     (kept_in q (parallel_second q f m l) r wr) (absorbed_in q (parallel_second q f m l) r wr) (stored_in q x (parallel_second q f m l) r) (incident_in q e (parallel_second q f m l) r)
-    (g1 * square (up wl)) (g2 * square (up wr)) (g * square u) (g1 * square (down wl)) (g2 * square (down wr)) (g * square d)
+    (g1 * square (up_wave wl)) (g2 * square (up_wave wr)) (g * square u) (g1 * square (down_wave wl)) (g2 * square (down_wave wr)) (g * square d)
     (balance q (parallel_first q f m r) x e l wl unit h.2)
     (balance q (parallel_second q f m l) x e r wr unit h.3)
-    (loses q g1 g2 g (up wl) (up wr) d b1 b2 b u (down wl) (down wr) unit (parallel_conserves q g1 g2 g (up wl) (up wr) d b1 b2 b h.0) h.1)
+    (loses q g1 g2 g (up_wave wl) (up_wave wr) d b1 b2 b u (down_wave wl) (down_wave wr) unit (parallel_conserves q g1 g2 g (up_wave wl) (up_wave wr) d b1 b2 b h.0) h.1)
 
 -- exactly so where q divides every value
-pub exact_balance : (q f : ℕ) (x e : ℕ → ℤ) (t : Plain) (w : Waves) → 0 < q → Follows q x e f t w → AreWhole q w
-    → kept_in q f t w + absorbed_in q f t w + conductance q f t * square (up w) ≡ stored_in q x f t + incident_in q e f t + conductance q f t * square (down w)
+pub exact_balance : (q f : ℕ) (x e : ℕ → ℤ) (t : AdaptorTree) (w : Waves) → 0 < q → Follows q x e f t w → AreExact q w
+    → kept_in q f t w + absorbed_in q f t w + conductance q f t * square (up_wave w) ≡ stored_in q x f t + incident_in q e f t + conductance q f t * square (down_wave w)
 exact_balance q f x e (leaf i k flip) (ends u d) unit h whole = at_leaf q f i x e k flip u d (reflects k flip (x i) (e i) u d h)
 exact_balance q f x e (leaf i k flip) (forks u d b1 b2 b wl wr) unit h whole = absurd h
 exact_balance q f x e (series m l r) (ends u d) unit h whole = absurd h
@@ -111,10 +111,10 @@ exact_balance q f x e (series m l r) (forks u d b1 b2 b wl wr) unit h whole =
     let g = conductance q f (series m l r) in
     joined_exactly (kept_in q (series_first q f m r) l wl) (absorbed_in q (series_first q f m r) l wl) (stored_in q x (series_first q f m r) l) (incident_in q e (series_first q f m r) l)
     (kept_in q (series_second q f m l) r wr) (absorbed_in q (series_second q f m l) r wr) (stored_in q x (series_second q f m l) r) (incident_in q e (series_second q f m l) r)
-    (g1 * square (up wl)) (g2 * square (up wr)) (g * square u) (g1 * square (down wl)) (g2 * square (down wr)) (g * square d)
+    (g1 * square (up_wave wl)) (g2 * square (up_wave wr)) (g * square u) (g1 * square (down_wave wl)) (g2 * square (down_wave wr)) (g * square d)
     (exact_balance q (series_first q f m r) x e l wl unit h.2 whole.3)
     (exact_balance q (series_second q f m l) x e r wr unit h.3 whole.4)
-    (loses_nothing q g1 g2 g (up wl) (up wr) d b1 b2 b u (down wl) (down wr) unit (series_conserves q g1 g2 g (up wl) (up wr) d b1 b2 b h.0) h.1 whole.0 whole.1 whole.2)
+    (loses_nothing q g1 g2 g (up_wave wl) (up_wave wr) d b1 b2 b u (down_wave wl) (down_wave wr) unit (series_conserves q g1 g2 g (up_wave wl) (up_wave wr) d b1 b2 b h.0) h.1 whole.0 whole.1 whole.2)
 exact_balance q f x e (parallel m l r) (ends u d) unit h whole = absurd h
 exact_balance q f x e (parallel m l r) (forks u d b1 b2 b wl wr) unit h whole =
     let g1 = conductance q (parallel_first q f m r) l in
@@ -122,10 +122,10 @@ exact_balance q f x e (parallel m l r) (forks u d b1 b2 b wl wr) unit h whole =
     let g = conductance q f (parallel m l r) in
     joined_exactly (kept_in q (parallel_first q f m r) l wl) (absorbed_in q (parallel_first q f m r) l wl) (stored_in q x (parallel_first q f m r) l) (incident_in q e (parallel_first q f m r) l)
     (kept_in q (parallel_second q f m l) r wr) (absorbed_in q (parallel_second q f m l) r wr) (stored_in q x (parallel_second q f m l) r) (incident_in q e (parallel_second q f m l) r)
-    (g1 * square (up wl)) (g2 * square (up wr)) (g * square u) (g1 * square (down wl)) (g2 * square (down wr)) (g * square d)
+    (g1 * square (up_wave wl)) (g2 * square (up_wave wr)) (g * square u) (g1 * square (down_wave wl)) (g2 * square (down_wave wr)) (g * square d)
     (exact_balance q (parallel_first q f m r) x e l wl unit h.2 whole.3)
     (exact_balance q (parallel_second q f m l) x e r wr unit h.3 whole.4)
-    (loses_nothing q g1 g2 g (up wl) (up wr) d b1 b2 b u (down wl) (down wr) unit (parallel_conserves q g1 g2 g (up wl) (up wr) d b1 b2 b h.0) h.1 whole.0 whole.1 whole.2)
+    (loses_nothing q g1 g2 g (up_wave wl) (up_wave wr) d b1 b2 b u (down_wave wl) (down_wave wr) unit (parallel_conserves q g1 g2 g (up_wave wl) (up_wave wr) d b1 b2 b h.0) h.1 whole.0 whole.1 whole.2)
 
 -- ---- a network
 
@@ -142,14 +142,14 @@ step_balance n x e s unit step =
     let g2 = conductance q (right_factor n) n.right in
     let left = balance q (left_factor n) x e n.left s.left unit step.left in
     let right = balance q (right_factor n) x e n.right s.right unit step.right in
-    let own = loses q g1 g2 0 (up s.left) (up s.right) (pos 0) s.b1 s.b2 (pos 0) (trunc (pos 0) q) (down s.left) (down s.right) unit
-    (root_conserves q g1 g2 (up s.left) (up s.right) s.b1 s.b2 step.root) (record { first = step.to_left; second = step.to_right; up = refl }) in
+    let own = loses q g1 g2 0 (up_wave s.left) (up_wave s.right) (pos 0) s.b1 s.b2 (pos 0) (trunc (pos 0) q) (down_wave s.left) (down_wave s.right) unit
+    (root_conserves q g1 g2 (up_wave s.left) (up_wave s.right) s.b1 s.b2 step.root) (record { first = step.to_left; second = step.to_right; up = refl }) in
     omega arith
 
-whole-zero : (q : ℕ) → 0 < q → IsWhole q (pos 0)
+whole-zero : (q : ℕ) → 0 < q → IsExact q (pos 0)
 whole-zero q unit = zero-whole q
   where
-    zero-whole : (q : ℕ) → IsWhole q (pos 0)
+    zero-whole : (q : ℕ) → IsExact q (pos 0)
     zero-whole q = omega (arith, ints)
 
 pub exact_step_balance : (n : Network) (x e : ℕ → ℤ) (s : Frame) → 0 < unit_of n → IsStep n x e s → IsLossless n s
@@ -160,7 +160,7 @@ exact_step_balance n x e s unit step whole =
     let g2 = conductance q (right_factor n) n.right in
     let left = exact_balance q (left_factor n) x e n.left s.left unit step.left whole.left in
     let right = exact_balance q (right_factor n) x e n.right s.right unit step.right whole.right in
-    let own = loses_nothing q g1 g2 0 (up s.left) (up s.right) (pos 0) s.b1 s.b2 (pos 0) (trunc (pos 0) q) (down s.left) (down s.right) unit
-    (root_conserves q g1 g2 (up s.left) (up s.right) s.b1 s.b2 step.root) (record { first = step.to_left; second = step.to_right; up = refl })
+    let own = loses_nothing q g1 g2 0 (up_wave s.left) (up_wave s.right) (pos 0) s.b1 s.b2 (pos 0) (trunc (pos 0) q) (down_wave s.left) (down_wave s.right) unit
+    (root_conserves q g1 g2 (up_wave s.left) (up_wave s.right) s.b1 s.b2 step.root) (record { first = step.to_left; second = step.to_right; up = refl })
     whole.first whole.second (whole-zero q unit) in
     omega arith

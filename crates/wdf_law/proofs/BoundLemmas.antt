@@ -8,31 +8,31 @@ use Rattle.wdf_algebra.specs.Truncation.{trunc}
 use Rattle.wdf_algebra.proofs.Truncations.{trunc-loses}
 use Rattle.wdf_algebra.proofs.ParallelJunction.{parallel_value, parallel_part}
 use Rattle.wdf_algebra.proofs.SeriesJunction.{series_value, series_part}
-use Rattle.wdf_law.specs.Trees.{Plain, leaf, series, parallel}
+use Rattle.wdf_law.specs.Trees.{AdaptorTree, leaf, series, parallel}
 use Rattle.wdf_law.specs.Network.{Network, unit_of}
 use Rattle.wdf_law.specs.Conductance.{conductance, series_first, series_second, parallel_first, parallel_second}
-use Rattle.wdf_law.specs.Step.{up, down, Frame, IsStep}
+use Rattle.wdf_law.specs.Step.{up_wave, down_wave, Frame, IsStep}
 use Rattle.wdf_law.specs.Energy.{stored_in, incident_in, left_factor, right_factor, incident}
 use Rattle.wdf_law.specs.Solved.{ups, waves, solved}
 use Rattle.wdf_law.specs.Laws.{AreBounded, IsFrameBounded}
 use Rattle.wdf_law.proofs.ConductanceLemmas.{IsSound, HasSoundTrees, conductance-pos, series_first-pos, series_second-pos, parallel_first-pos, parallel_second-pos, left_factor-pos, right_factor-pos, series_law, parallel_law, root_law, whole_of}
 use Rattle.wdf_law.proofs.JunctionLemmas.{parallel_solved, series_solved, root_solved}
-use Rattle.wdf_law.proofs.StepLemmas.{up-waves, down-waves, follows, step-alone}
+use Rattle.wdf_law.proofs.StepLemmas.{up_wave-waves, down_wave-waves, follows, step-alone}
 use Rattle.wdf_law.proofs.Losses.{Conserves, parallel_conserves, series_conserves, root_conserves, loses}
 use Rattle.wdf_law.proofs.BalanceLemmas.{balance, held}
 
 -- what a tree holds and its sources send
-abbrev pub at_hand : ℕ → (ℕ → ℤ) → (ℕ → ℤ) → ℕ → Plain → ℕ
+abbrev pub at_hand : ℕ → (ℕ → ℤ) → (ℕ → ℤ) → ℕ → AdaptorTree → ℕ
 at_hand q x e f t = stored_in q x f t + incident_in q e f t
 
 -- a tree reflects no more than it has: its up wave is the same where it is sent nothing
-pub ups_bound : (q f : ℕ) (x e : ℕ → ℤ) (t : Plain) → 0 < q → 0 < f → IsSound q t → conductance q f t * square (ups q x e t) ≤ at_hand q x e f t
+pub ups_bound : (q f : ℕ) (x e : ℕ → ℤ) (t : AdaptorTree) → 0 < q → 0 < f → IsSound q t → conductance q f t * square (ups q x e t) ≤ at_hand q x e f t
 ups_bound q f x e t unit some s =
     let all = balance q f x e t (waves q x e t (pos 0)) unit (follows q f x e t (pos 0) unit some s) in
-    let same : conductance q f t * square (up (waves q x e t (pos 0))) ≡ conductance q f t * square (ups q x e t) =
-    ap (λ (z : ℤ). conductance q f t * square z) (up-waves q x e t (pos 0)) in
-    let none : conductance q f t * square (down (waves q x e t (pos 0))) ≡ conductance q f t * 0 =
-    ap (λ (z : ℤ). conductance q f t * square z) (down-waves q x e t (pos 0)) in
+    let same : conductance q f t * square (up_wave (waves q x e t (pos 0))) ≡ conductance q f t * square (ups q x e t) =
+    ap (λ (z : ℤ). conductance q f t * square z) (up_wave-waves q x e t (pos 0)) in
+    let none : conductance q f t * square (down_wave (waves q x e t (pos 0))) ≡ conductance q f t * 0 =
+    ap (λ (z : ℤ). conductance q f t * square z) (down_wave-waves q x e t (pos 0)) in
     omega arith
 
 -- ---- one junction over natural numbers: the weighted squares s1, s2, s of its values, u1, u2, u of the up waves,
@@ -61,7 +61,7 @@ weigh g qq t s h = let m = mul-le-mul_left g h in omega arith
 
 -- ---- a tree
 
-pub bounded : (q c f : ℕ) (x e : ℕ → ℤ) (t : Plain) (d : ℤ) → 0 < q → 0 < f → IsSound q t
+pub bounded : (q c f : ℕ) (x e : ℕ → ℤ) (t : AdaptorTree) (d : ℤ) → 0 < q → 0 < f → IsSound q t
     → conductance q f t * square d + at_hand q x e f t ≤ c + conductance q f t * square (ups q x e t) → at_hand q x e f t ≤ c
     → AreBounded q c f t (waves q x e t d)
 bounded q c f x e (leaf i k flip) d unit some s down_h all =

@@ -4,14 +4,14 @@ use Rattle.std.specs.Prelude.{All}
 use Rattle.std.proofs.Math.Nat.{mul-pos}
 use Rattle.std.proofs.lemmas.List.{map-append}
 use Rattle.std.proofs.lemmas.List.Elements.{All-nil, All-cons, All-head, All-tail, All-same}
-use Rattle.wdf_law.specs.Trees.{Plain, leaf, series, parallel}
+use Rattle.wdf_law.specs.Trees.{AdaptorTree, leaf, series, parallel}
 use Rattle.wdf_law.specs.Network.{Network, IsNetwork, Adaptor, unit_of, adaptors_of, multipliers_of}
 use Rattle.wdf_law.specs.Conductance.{clearing, conductance, series_first, series_second, parallel_first, parallel_second, root_first, root_second}
 use Rattle.wdf_law.specs.Energy.{left_factor, right_factor}
 use Rattle.wdf_law.specs.Laws.{AreParallel, AreSeries, HaveConductances, HasConductances}
 
 -- every multiplier of a tree is in 1..=q-1
-abbrev pub IsSound : ℕ → Plain → Type 0
+abbrev pub IsSound : ℕ → AdaptorTree → Type 0
 IsSound q (leaf i k flip) = Unit {0}
 IsSound q (series m l r) = (1 ≤ m) × (m < q) × IsSound q l × IsSound q r
 IsSound q (parallel m l r) = (1 ≤ m) × (m < q) × IsSound q l × IsSound q r
@@ -28,11 +28,11 @@ all_behind q [] ys h = h
 all_behind q (x ∷ xs) ys h = all_behind q xs ys (All-tail (InRange q) x (xs ++ ys) h)
 
 -- the multipliers of two trees
-split : (q : ℕ) (l r : Plain) → All (InRange q) (map (λ (a : Adaptor). a.multiplier) (adaptors_of l ++ adaptors_of r))
+split : (q : ℕ) (l r : AdaptorTree) → All (InRange q) (map (λ (a : Adaptor). a.multiplier) (adaptors_of l ++ adaptors_of r))
     → All (InRange q) (multipliers_of l ++ multipliers_of r)
 split q l r h = All-same (InRange q) _ _ (sym (map-append (λ (a : Adaptor). a.multiplier) (adaptors_of l) (adaptors_of r))) h
 
-sound : (q : ℕ) (t : Plain) → All (InRange q) (multipliers_of t) → IsSound q t
+sound : (q : ℕ) (t : AdaptorTree) → All (InRange q) (multipliers_of t) → IsSound q t
 sound q (leaf i k flip) h = tt
 sound q (series m l r) h =
     let here = All-head (InRange q) m (map (λ (a : Adaptor). a.multiplier) (adaptors_of l ++ adaptors_of r)) h in
@@ -69,25 +69,25 @@ sound_trees n rules =
 rest_of : (q m : ℕ) → m < q → 0 < q - m
 rest_of q m h = omega arith
 
-pub clearing-pos : (q : ℕ) (t : Plain) → 0 < q → IsSound q t → 0 < clearing q t
+pub clearing-pos : (q : ℕ) (t : AdaptorTree) → 0 < q → IsSound q t → 0 < clearing q t
 clearing-pos q (leaf i k flip) unit s = omega arith
 clearing-pos q (series m l r) unit s =
     mul-pos (mul-pos (mul-pos s.0 (rest_of q m s.1)) (clearing-pos q l unit s.2)) (clearing-pos q r unit s.3)
 clearing-pos q (parallel m l r) unit s = mul-pos (mul-pos unit (clearing-pos q l unit s.2)) (clearing-pos q r unit s.3)
 
-pub conductance-pos : (q f : ℕ) (t : Plain) → 0 < q → 0 < f → IsSound q t → 0 < conductance q f t
+pub conductance-pos : (q f : ℕ) (t : AdaptorTree) → 0 < q → 0 < f → IsSound q t → 0 < conductance q f t
 conductance-pos q f t unit some s = mul-pos some (clearing-pos q t unit s)
 
-pub series_first-pos : (q f m : ℕ) (r : Plain) → 0 < q → 0 < f → m < q → IsSound q r → 0 < series_first q f m r
+pub series_first-pos : (q f m : ℕ) (r : AdaptorTree) → 0 < q → 0 < f → m < q → IsSound q r → 0 < series_first q f m r
 series_first-pos q f m r unit some h s = mul-pos (mul-pos (mul-pos some unit) (rest_of q m h)) (clearing-pos q r unit s)
 
-pub series_second-pos : (q f m : ℕ) (l : Plain) → 0 < q → 0 < f → 1 ≤ m → IsSound q l → 0 < series_second q f m l
+pub series_second-pos : (q f m : ℕ) (l : AdaptorTree) → 0 < q → 0 < f → 1 ≤ m → IsSound q l → 0 < series_second q f m l
 series_second-pos q f m l unit some h s = mul-pos (mul-pos (mul-pos some unit) h) (clearing-pos q l unit s)
 
-pub parallel_first-pos : (q f m : ℕ) (r : Plain) → 0 < q → 0 < f → 1 ≤ m → IsSound q r → 0 < parallel_first q f m r
+pub parallel_first-pos : (q f m : ℕ) (r : AdaptorTree) → 0 < q → 0 < f → 1 ≤ m → IsSound q r → 0 < parallel_first q f m r
 parallel_first-pos q f m r unit some h s = mul-pos (mul-pos some h) (clearing-pos q r unit s)
 
-pub parallel_second-pos : (q f m : ℕ) (l : Plain) → 0 < q → 0 < f → m < q → IsSound q l → 0 < parallel_second q f m l
+pub parallel_second-pos : (q f m : ℕ) (l : AdaptorTree) → 0 < q → 0 < f → m < q → IsSound q l → 0 < parallel_second q f m l
 parallel_second-pos q f m l unit some h s = mul-pos (mul-pos some (rest_of q m h)) (clearing-pos q l unit s)
 
 -- ---- what the multipliers say, over the clearing numbers a and b of the parts
@@ -110,19 +110,19 @@ root_numbers q m n a b h = let e = ap (λ (s : ℕ). m * a * b * s) h in omega a
 pub whole_of : (q m : ℕ) → m < q → m + (q - m) ≡ q
 whole_of q m h = omega arith
 
-pub series_law : (q f m : ℕ) (l r : Plain) → m < q
+pub series_law : (q f m : ℕ) (l r : AdaptorTree) → m < q
     → AreSeries q m (conductance q (series_first q f m r) l) (conductance q (series_second q f m l) r) (conductance q f (series m l r))
 series_law q f m l r h = series_numbers q m (q - m) f (clearing q l) (clearing q r) (whole_of q m h)
 
-pub parallel_law : (q f m : ℕ) (l r : Plain) → m < q
+pub parallel_law : (q f m : ℕ) (l r : AdaptorTree) → m < q
     → AreParallel q m (conductance q (parallel_first q f m r) l) (conductance q (parallel_second q f m l) r) (conductance q f (parallel m l r))
 parallel_law q f m l r h = parallel_numbers q m (q - m) f (clearing q l) (clearing q r) (whole_of q m h)
 
-pub root_law : (q m : ℕ) (l r : Plain) → m < q
+pub root_law : (q m : ℕ) (l r : AdaptorTree) → m < q
     → q * conductance q (root_first q m r) l ≡ m * (conductance q (root_first q m r) l + conductance q (root_second q m l) r)
 root_law q m l r h = root_numbers q m (q - m) (clearing q l) (clearing q r) (whole_of q m h)
 
-pub have_conductances : (q f : ℕ) (t : Plain) → 0 < q → 0 < f → IsSound q t → HaveConductances q f t
+pub have_conductances : (q f : ℕ) (t : AdaptorTree) → 0 < q → 0 < f → IsSound q t → HaveConductances q f t
 have_conductances q f (leaf i k flip) unit some s = conductance-pos q f (leaf i k flip) unit some s
 have_conductances q f (series m l r) unit some s = (
   conductance-pos q f (series m l r) unit some s,

@@ -2,10 +2,10 @@
 use Rattle.std.proofs.Common.{◌<◌, ◌^◌, map, ◌≡◌, ◌+◌, ◌++◌, length, length-append}
 use Rattle.std.proofs.Common.{ℕ, ◌≤◌}
 use Rattle.std.proofs.lemmas.List.Elements.{All-head}
-use Rattle.wdf_law.specs.Trees.{Plain, elements_of}
+use Rattle.wdf_law.specs.Trees.{AdaptorTree, elements_of}
 use Rattle.wdf_law.specs.Network.{Network, IsNetwork, Adaptor, unit_of, adaptors_of}
 
-pub counts_of : (l r : Plain) → length (elements_of l ++ elements_of r) ≡ length (elements_of l) + length (elements_of r)
+pub counts_of : (l r : AdaptorTree) → length (elements_of l ++ elements_of r) ≡ length (elements_of l) + length (elements_of r)
 counts_of l r = length-append (elements_of l) (elements_of r)
 
 -- the root's multiplier is in its range

@@ -10,7 +10,7 @@ use Rattle.wdf_algebra.proofs.ParallelJunction.{parallel_energy}
 use Rattle.wdf_algebra.proofs.SeriesJunction.{series_energy}
 use Rattle.wdf_algebra.proofs.RootJunction.{root_energy}
 use Rattle.wdf_law.specs.Junction.{IsParallel, IsSeries, IsRoot, Truncates}
-use Rattle.wdf_law.specs.Laws.{IsWhole}
+use Rattle.wdf_law.specs.Laws.{IsExact}
 
 square-is : (z : ℤ) → z *ℤ z ≡ pos (square z)
 square-is (pos n) = refl
@@ -79,7 +79,7 @@ loses q g1 g2 g u1 u2 d b1 b2 b u d1 d2 unit e cut =
 
 -- and all of it where q divides every value
 pub loses_nothing : (q g1 g2 g : ℕ) (u1 u2 d b1 b2 b u d1 d2 : ℤ) → 0 < q → Conserves q g1 g2 g u1 u2 d b1 b2 b → Truncates q u d1 d2 b1 b2 b
-    → IsWhole q b1 → IsWhole q b2 → IsWhole q b
+    → IsExact q b1 → IsExact q b2 → IsExact q b
     → g1 * square d1 + g2 * square d2 + g * square u ≡ g1 * square u1 + g2 * square u2 + g * square d
 loses_nothing q g1 g2 g u1 u2 d b1 b2 b u d1 d2 unit e cut w1 w2 w =
     none_lost q g1 g2 g (square b1) (square b2) (square b) (square d1) (square d2) (square u) _ unit

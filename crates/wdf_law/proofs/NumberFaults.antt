@@ -5,7 +5,7 @@ use Rattle.std.specs.List.{find, range_with_len}
 use Rattle.std.proofs.lemmas.List.{length-map}
 use Rattle.wdf_law.specs.declared.net_error.NetError.{NetError}
 use Rattle.wdf_law.specs.declared.net_error.NetError.TheVariants.{BadElement, DoubleElement, MissingElement}
-use Rattle.wdf_law.specs.Trees.{Plain, Element, elements_of}
+use Rattle.wdf_law.specs.Trees.{AdaptorTree, LeafElement, elements_of}
 use Rattle.wdf_law.specs.Network.{numbers_of}
 use Rattle.wdf_law.specs.Marks.{first_marked, marked}
 use Rattle.wdf_law.specs.Refusal.{first_large, first_repeated, least_missing, number_fault}
@@ -33,13 +33,13 @@ number_fault-missing xs c o count large double found =
     ∙ ap (option_map (λ (e : ℕ). MissingElement e)) (ap (least_missing xs) (sym count) ∙ (sym (least_unmarked xs c few) ∙ sym found)))
 
 -- how many leaves two trees have
-pub length_numbers : (l r : Plain) → length (numbers_of l ++ numbers_of r) ≡ length (elements_of l) + length (elements_of r)
+pub length_numbers : (l r : AdaptorTree) → length (numbers_of l ++ numbers_of r) ≡ length (elements_of l) + length (elements_of r)
 length_numbers l r =
-    let one = length-map (elements_of l) (λ (x : Element). x.number) in
-    let two = length-map (elements_of r) (λ (x : Element). x.number) in
+    let one = length-map (elements_of l) (λ (x : LeafElement). x.number) in
+    let two = length-map (elements_of r) (λ (x : LeafElement). x.number) in
     omega (arith, length-append (numbers_of l) (numbers_of r))
 
-pub counted_leaves : (l r : Plain) → first_large (numbers_of l ++ numbers_of r) ≡ None → first_marked no_marks (numbers_of l ++ numbers_of r) ≡ None
+pub counted_leaves : (l r : AdaptorTree) → first_large (numbers_of l ++ numbers_of r) ≡ None → first_marked no_marks (numbers_of l ++ numbers_of r) ≡ None
     → length (elements_of l) + length (elements_of r) ≤ 128
 counted_leaves l r large double =
     subst (λ (n : ℕ). n ≤ 128) (length_numbers l r)

@@ -4,7 +4,7 @@ use Rattle.std.specs.Prelude.{◌↔◌}
 use Rattle.std.specs.Option.{option_or, option_map}
 use Rattle.wdf_law.specs.declared.net_error.NetError.{NetError}
 use Rattle.wdf_law.specs.declared.net_error.NetError.TheVariants.{BadWidth, TooDeep, BadMultiplier, BadElement, DoubleElement, MissingElement, NoSource, DoubleSource, NoOutlet}
-use Rattle.wdf_law.specs.Trees.{Element}
+use Rattle.wdf_law.specs.Trees.{LeafElement}
 use Rattle.wdf_law.specs.Network.{Network, unit_of, elements, numbers, adaptors, sources, has_outlet}
 use Rattle.wdf_law.specs.Refusal.{is_width, is_shallow, first_out, first_large, first_repeated, least_missing, source_fault, unless, refusal, Refuses}
 
@@ -34,7 +34,7 @@ some_same : (a b : NetError) → Some a ≡ Some b → a ≡ b
 some_same a b e = cc
 
 -- what the refusal says, by the outcomes of the rules
-says : (n : Network) (w d : Bool) (m l r x : Option ℕ) (xs : List Element) (o : Bool) → is_width n ≡ w → is_shallow n ≡ d
+says : (n : Network) (w d : Bool) (m l r x : Option ℕ) (xs : List LeafElement) (o : Bool) → is_width n ≡ w → is_shallow n ≡ d
     → first_out (unit_of n) (adaptors n) ≡ m → first_large (numbers n) ≡ l → first_repeated [] (numbers n) ≡ r
     → least_missing (numbers n) (length (numbers n)) ≡ x → sources n ≡ xs → has_outlet (elements n) n.outlet ≡ o
     → (e : NetError) → chain n.k w d m l r x (source_fault xs) o ≡ Some e → Refuses n e

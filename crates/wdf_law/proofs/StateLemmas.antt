@@ -11,21 +11,21 @@ use lib.IntN.{ℤ, pos}
 use Rattle.wdf_algebra.specs.Squares.{square}
 use Rattle.wdf_law.specs.declared.kind.Kind.{Kind}
 use Rattle.wdf_law.specs.declared.kind.Kind.TheVariants.{Res, Cap, Ind, Src}
-use Rattle.wdf_law.specs.Trees.{Plain, leaf, series, parallel, Element, elements_of}
+use Rattle.wdf_law.specs.Trees.{AdaptorTree, leaf, series, parallel, LeafElement, elements_of}
 use Rattle.wdf_law.specs.Network.{Network, IsNetwork, unit_of, elements, numbers, numbers_of, times_in, is_reactance, has_reactance, reactances}
 use Rattle.wdf_law.specs.Conductance.{conductance, series_first, series_second, parallel_first, parallel_second}
 use Rattle.wdf_law.specs.Step.{Waves, ends, forks, Follows, Frame, IsStep, has_leaf, sent, sent_in, after}
-use Rattle.wdf_law.specs.Run.{entry, states, rest}
+use Rattle.wdf_law.specs.Run.{entry, states, at_rest}
 use Rattle.wdf_law.specs.Energy.{if_reactance, stored_in, left_factor, right_factor, stored}
 use Rattle.wdf_law.proofs.BalanceLemmas.{kept_in, kept}
 
 -- ---- lists of elements
 
-abbrev number_is : ℕ → Element → Bool
+abbrev number_is : ℕ → LeafElement → Bool
 number_is i x = x.number == i
 
 -- an element with this number is among them
-abbrev among : List Element → ℕ → Bool
+abbrev among : List LeafElement → ℕ → Bool
 among xs i = list_any (number_is i) xs
 
 or_left : (a b : Bool) → a ≡ true → (a || b) ≡ true
@@ -35,7 +35,7 @@ or_right : (a b : Bool) → b ≡ true → (a || b) ≡ true
 or_right true b h = refl
 or_right false b h = h
 
-reactance_among : (xs : List Element) (i : ℕ) → has_reactance xs i ≡ true → among xs i ≡ true
+reactance_among : (xs : List LeafElement) (i : ℕ) → has_reactance xs i ≡ true → among xs i ≡ true
 reactance_among [] i h = h
 reactance_among (x ∷ xs) i h = by (x.number == i) (is_reactance x.kind) (reactance_among xs i) h
   where
@@ -43,12 +43,12 @@ reactance_among (x ∷ xs) i h = by (x.number == i) (is_reactance x.kind) (react
     by true b rest h = refl
     by false b rest h = rest h
 
-counted : (xs : List Element) (i : ℕ) → among xs i ≡ true → 1 ≤ times_in (map (λ (x : Element). x.number) xs) i
+counted : (xs : List LeafElement) (i : ℕ) → among xs i ≡ true → 1 ≤ times_in (map (λ (x : LeafElement). x.number) xs) i
 counted [] i h = absurd (cc)
 counted (x ∷ xs) i h = by (x.number == i) h (counted xs i)
   where
-    by : (b : Bool) → (b || among xs i) ≡ true → (among xs i ≡ true → 1 ≤ times_in (map (λ (x : Element). x.number) xs) i)
-        → 1 ≤ cond {A = ℕ} b 1 0 + times_in (map (λ (x : Element). x.number) xs) i
+    by : (b : Bool) → (b || among xs i) ≡ true → (among xs i ≡ true → 1 ≤ times_in (map (λ (x : LeafElement). x.number) xs) i)
+        → 1 ≤ cond {A = ℕ} b 1 0 + times_in (map (λ (x : LeafElement). x.number) xs) i
     by true h rest = omega arith
     by false h rest = let more = rest h in omega arith
 
@@ -57,14 +57,14 @@ times-append [] ys i = omega arith
 times-append (x ∷ xs) ys i = let rest = times-append xs ys i in omega arith
 
 -- how often a number stands in two lists
-times_both : (xs ys : List Element) (i : ℕ) → times_in (map (λ (x : Element). x.number) (xs ++ ys)) i
-    ≡ times_in (map (λ (x : Element). x.number) xs) i + times_in (map (λ (x : Element). x.number) ys) i
+times_both : (xs ys : List LeafElement) (i : ℕ) → times_in (map (λ (x : LeafElement). x.number) (xs ++ ys)) i
+    ≡ times_in (map (λ (x : LeafElement). x.number) xs) i + times_in (map (λ (x : LeafElement). x.number) ys) i
 times_both xs ys i =
-    ap (λ (ks : List ℕ). times_in ks i) (map-append (λ (x : Element). x.number) xs ys)
-    ∙ times-append (map (λ (x : Element). x.number) xs) (map (λ (x : Element). x.number) ys) i
+    ap (λ (ks : List ℕ). times_in ks i) (map-append (λ (x : LeafElement). x.number) xs ys)
+    ∙ times-append (map (λ (x : LeafElement). x.number) xs) (map (λ (x : LeafElement). x.number) ys) i
 
 -- where no number stands twice, one of the second list is not in the first
-apart : (xs ys : List Element) (i : ℕ) → times_in (map (λ (x : Element). x.number) (xs ++ ys)) i ≤ 1 → among ys i ≡ true → among xs i ≡ false
+apart : (xs ys : List LeafElement) (i : ℕ) → times_in (map (λ (x : LeafElement). x.number) (xs ++ ys)) i ≤ 1 → among ys i ≡ true → among xs i ≡ false
 apart xs ys i once h = by (among xs i) refl
   where
     by : (b : Bool) → among xs i ≡ b → b ≡ false
@@ -76,15 +76,15 @@ apart xs ys i once h = by (among xs i) refl
     by false e = refl
 
 -- the numbers of two lists are below a bound, so those of a reactance
-below_bound : (xs : List Element) (c i : ℕ) → All (λ (k : ℕ). k < c) (map (λ (x : Element). x.number) xs) → among xs i ≡ true → i < c
+below_bound : (xs : List LeafElement) (c i : ℕ) → All (λ (k : ℕ). k < c) (map (λ (x : LeafElement). x.number) xs) → among xs i ≡ true → i < c
 below_bound [] c i h k = absurd (cc)
 below_bound (x ∷ xs) c i h k =
-    by (x.number == i) refl (below_bound xs c i (All-tail (λ (k : ℕ). k < c) x.number (map (λ (x : Element). x.number) xs) h)) k
+    by (x.number == i) refl (below_bound xs c i (All-tail (λ (k : ℕ). k < c) x.number (map (λ (x : LeafElement). x.number) xs) h)) k
   where
     by : (b : Bool) → (x.number == i) ≡ b → (among xs i ≡ true → i < c) → (b || among xs i) ≡ true → i < c
     by true e rest t =
         let same : x.number ≡ i = eqb-true x.number i e in
-        subst (λ (j : ℕ). j < c) same (All-head (λ (k : ℕ). k < c) x.number (map (λ (x : Element). x.number) xs) h)
+        subst (λ (j : ℕ). j < c) same (All-head (λ (k : ℕ). k < c) x.number (map (λ (x : LeafElement). x.number) xs) h)
     by false e rest t = rest t
 
 -- ---- what is entered under a key is found there
@@ -131,29 +131,29 @@ passes p (suc n) a (suc i) h t =
 -- ---- a tree
 
 -- each reactance of a tree has its down wave as its state
-abbrev pub Keeps : (ℕ → ℤ) → Plain → Waves → Type 0
+abbrev pub Keeps : (ℕ → ℤ) → AdaptorTree → Waves → Type 0
 Keeps x t w = (i : ℕ) → has_reactance (elements_of t) i ≡ true → x i ≡ sent t w i
 
-abbrev pub AreApart : Plain → Type 0
+abbrev pub AreApart : AdaptorTree → Type 0
 AreApart t = (i : ℕ) → times_in (numbers_of t) i ≤ 1
 
-first_apart : (l r : Plain) → ((i : ℕ) → times_in (map (λ (x : Element). x.number) (elements_of l ++ elements_of r)) i ≤ 1) → AreApart l
+first_apart : (l r : AdaptorTree) → ((i : ℕ) → times_in (map (λ (x : LeafElement). x.number) (elements_of l ++ elements_of r)) i ≤ 1) → AreApart l
 first_apart l r once i = let both = times_both (elements_of l) (elements_of r) i in let o = once i in omega arith
 
-second_apart : (l r : Plain) → ((i : ℕ) → times_in (map (λ (x : Element). x.number) (elements_of l ++ elements_of r)) i ≤ 1) → AreApart r
+second_apart : (l r : AdaptorTree) → ((i : ℕ) → times_in (map (λ (x : LeafElement). x.number) (elements_of l ++ elements_of r)) i ≤ 1) → AreApart r
 second_apart l r once i = let both = times_both (elements_of l) (elements_of r) i in let o = once i in omega arith
 
 -- the parts of what two trees keep, d being their waves by number
-first_keeps : (x : ℕ → ℤ) (l r : Plain) (wl wr : Waves)
+first_keeps : (x : ℕ → ℤ) (l r : AdaptorTree) (wl wr : Waves)
     → ((i : ℕ) → has_reactance (elements_of l ++ elements_of r) i ≡ true → x i ≡ cond {A = ℤ} (has_leaf l i) (sent l wl i) (sent r wr i)) → Keeps x l wl
 first_keeps x l r wl wr keeps i h =
-    keeps i (list_any-append (λ (y : Element). (y.number == i) && is_reactance y.kind) (elements_of l) (elements_of r) ∙ or_left _ _ h)
+    keeps i (list_any-append (λ (y : LeafElement). (y.number == i) && is_reactance y.kind) (elements_of l) (elements_of r) ∙ or_left _ _ h)
     ∙ ap (λ (b : Bool). cond {A = ℤ} b (sent l wl i) (sent r wr i)) (reactance_among (elements_of l) i h)
 
-second_keeps : (x : ℕ → ℤ) (l r : Plain) (wl wr : Waves) → ((i : ℕ) → times_in (map (λ (x : Element). x.number) (elements_of l ++ elements_of r)) i ≤ 1)
+second_keeps : (x : ℕ → ℤ) (l r : AdaptorTree) (wl wr : Waves) → ((i : ℕ) → times_in (map (λ (x : LeafElement). x.number) (elements_of l ++ elements_of r)) i ≤ 1)
     → ((i : ℕ) → has_reactance (elements_of l ++ elements_of r) i ≡ true → x i ≡ cond {A = ℤ} (has_leaf l i) (sent l wl i) (sent r wr i)) → Keeps x r wr
 second_keeps x l r wl wr once keeps i h =
-    keeps i (list_any-append (λ (y : Element). (y.number == i) && is_reactance y.kind) (elements_of l) (elements_of r) ∙ or_right _ _ h)
+    keeps i (list_any-append (λ (y : LeafElement). (y.number == i) && is_reactance y.kind) (elements_of l) (elements_of r) ∙ or_right _ _ h)
     ∙ ap (λ (b : Bool). cond {A = ℤ} b (sent l wl i) (sent r wr i)) (apart (elements_of l) (elements_of r) i (once i) (reactance_among (elements_of r) i h))
 
 at_leaf : (q f i : ℕ) (k : Kind) (flip : Bool) (x : ℕ → ℤ) (u d : ℤ) → Keeps x (leaf i k flip) (ends u d) → stored_in q x f (leaf i k flip) ≡ kept_in q f (leaf i k flip) (ends u d)
@@ -167,7 +167,7 @@ at_leaf q f i Ind flip x u d keeps =
     (keeps i (ap (λ (b : Bool). (b && true) || false) (eq-eqb i i refl)) ∙ ap (λ (b : Bool). cond {A = ℤ} b d (pos 0)) (eq-eqb i i refl))
 
 -- what is stored in such states is what was kept
-pub kept-is : (q f : ℕ) (x y e : ℕ → ℤ) (t : Plain) (w : Waves) → Follows q y e f t w → AreApart t → Keeps x t w → stored_in q x f t ≡ kept_in q f t w
+pub kept-is : (q f : ℕ) (x y e : ℕ → ℤ) (t : AdaptorTree) (w : Waves) → Follows q y e f t w → AreApart t → Keeps x t w → stored_in q x f t ≡ kept_in q f t w
 kept-is q f x y e (leaf i k flip) (ends u d) h once keeps = at_leaf q f i k flip x u d keeps
 kept-is q f x y e (leaf i k flip) (forks u d b1 b2 b wl wr) h once keeps = absurd h
 kept-is q f x y e (series m l r) (ends u d) h once keeps = absurd h
@@ -220,7 +220,7 @@ stored-after n x e s rules step =
     + kept-is q (right_factor n) y x e n.right s.right step.right (second_apart n.left n.right once) (second_keeps y n.left n.right s.left s.right once keeps) i
 
 -- at rest nothing is stored
-nothing_in : (q f : ℕ) (x : ℕ → ℤ) (t : Plain) → ((i : ℕ) → x i ≡ pos 0) → stored_in q x f t ≡ 0
+nothing_in : (q f : ℕ) (x : ℕ → ℤ) (t : AdaptorTree) → ((i : ℕ) → x i ≡ pos 0) → stored_in q x f t ≡ 0
 nothing_in q f x (leaf i k flip) h = by k (ap (λ (z : ℤ). conductance q f (leaf i k flip) * square z) (h i))
   where
     by : (k : Kind) → conductance q f (leaf i k flip) * square (x i) ≡ conductance q f (leaf i k flip) * 0 → if_reactance k (conductance q f (leaf i k flip) * square (x i)) ≡ 0
@@ -237,9 +237,9 @@ nothing_in q f x (parallel m l r) h =
     let b = nothing_in q (parallel_second q f m l) x r h in
     omega arith
 
-pub stored-rest : (n : Network) → stored n (rest n) ≡ 0
-stored-rest n =
+pub stored-at_rest : (n : Network) → stored n (at_rest n) ≡ 0
+stored-at_rest n =
     let none = none_entered (reactances n) in
-    let a = nothing_in (unit_of n) (left_factor n) (states n (rest n)) n.left none in
-    let b = nothing_in (unit_of n) (right_factor n) (states n (rest n)) n.right none in
+    let a = nothing_in (unit_of n) (left_factor n) (states n (at_rest n)) n.left none in
+    let b = nothing_in (unit_of n) (right_factor n) (states n (at_rest n)) n.right none in
     omega arith

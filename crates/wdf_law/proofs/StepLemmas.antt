@@ -5,11 +5,11 @@ use Rattle.wdf_algebra.specs.RootValue.{root_value}
 use Rattle.wdf_algebra.specs.Truncation.{trunc}
 use Rattle.wdf_algebra.proofs.ParallelJunction.{parallel_value, parallel_part}
 use Rattle.wdf_algebra.proofs.SeriesJunction.{series_value, series_part}
-use Rattle.wdf_law.specs.Trees.{Plain, leaf, series, parallel}
+use Rattle.wdf_law.specs.Trees.{AdaptorTree, leaf, series, parallel}
 use Rattle.wdf_law.specs.Network.{Network, IsNetwork, unit_of}
 use Rattle.wdf_law.specs.Conductance.{conductance, series_first, series_second, parallel_first, parallel_second}
 use Rattle.wdf_law.specs.Junction.{IsParallel, IsSeries, IsRoot}
-use Rattle.wdf_law.specs.Step.{Waves, ends, forks, up, down, Follows, Frame, IsStep}
+use Rattle.wdf_law.specs.Step.{Waves, ends, forks, up_wave, down_wave, Follows, Frame, IsStep}
 use Rattle.wdf_law.specs.Run.{states}
 use Rattle.wdf_law.specs.Energy.{left_factor, right_factor}
 use Rattle.wdf_law.specs.Solved.{ups, waves, solved}
@@ -18,18 +18,18 @@ use Rattle.wdf_law.proofs.ConductanceLemmas.{IsSound, HasSoundTrees, sound_trees
 use Rattle.wdf_law.proofs.ElementLemmas.{reflects, reflected-meets}
 use Rattle.wdf_law.proofs.JunctionLemmas.{parallel_solved, parallel_alone, series_solved, series_alone, root_solved, root_alone_first, root_alone_second}
 
-pub up-waves : (q : ℕ) (x e : ℕ → ℤ) (t : Plain) (d : ℤ) → up (waves q x e t d) ≡ ups q x e t
-up-waves q x e (leaf i k flip) d = refl
-up-waves q x e (series m l r) d = refl
-up-waves q x e (parallel m l r) d = refl
+pub up_wave-waves : (q : ℕ) (x e : ℕ → ℤ) (t : AdaptorTree) (d : ℤ) → up_wave (waves q x e t d) ≡ ups q x e t
+up_wave-waves q x e (leaf i k flip) d = refl
+up_wave-waves q x e (series m l r) d = refl
+up_wave-waves q x e (parallel m l r) d = refl
 
-pub down-waves : (q : ℕ) (x e : ℕ → ℤ) (t : Plain) (d : ℤ) → down (waves q x e t d) ≡ d
-down-waves q x e (leaf i k flip) d = refl
-down-waves q x e (series m l r) d = refl
-down-waves q x e (parallel m l r) d = refl
+pub down_wave-waves : (q : ℕ) (x e : ℕ → ℤ) (t : AdaptorTree) (d : ℤ) → down_wave (waves q x e t d) ≡ d
+down_wave-waves q x e (leaf i k flip) d = refl
+down_wave-waves q x e (series m l r) d = refl
+down_wave-waves q x e (parallel m l r) d = refl
 
 -- the solved waves meet every law
-pub follows : (q f : ℕ) (x e : ℕ → ℤ) (t : Plain) (d : ℤ) → 0 < q → 0 < f → IsSound q t → Follows q x e f t (waves q x e t d)
+pub follows : (q f : ℕ) (x e : ℕ → ℤ) (t : AdaptorTree) (d : ℤ) → 0 < q → 0 < f → IsSound q t → Follows q x e f t (waves q x e t d)
 follows q f x e (leaf i k flip) d unit some s = reflected-meets k flip (x i) (e i) d
 follows q f x e (series m l r) d unit some s =
     let u1 = ups q x e l in
@@ -43,12 +43,12 @@ follows q f x e (series m l r) d unit some s =
     let g = conductance q f (series m l r) in
     let first = series_first-pos q f m r unit some s.1 s.3 in
     let second = series_second-pos q f m l unit some s.0 s.2 in
-    let is : IsSeries q g1 g2 g (up wl) (up wr) d b1 b2 (series_value q u1 u2) =
-    subst (λ (v : ℤ). IsSeries q g1 g2 g v (up wr) d b1 b2 (series_value q u1 u2)) (sym (up-waves q x e l (trunc b1 q)))
-    (subst (λ (v : ℤ). IsSeries q g1 g2 g u1 v d b1 b2 (series_value q u1 u2)) (sym (up-waves q x e r (trunc b2 q)))
+    let is : IsSeries q g1 g2 g (up_wave wl) (up_wave wr) d b1 b2 (series_value q u1 u2) =
+    subst (λ (v : ℤ). IsSeries q g1 g2 g v (up_wave wr) d b1 b2 (series_value q u1 u2)) (sym (up_wave-waves q x e l (trunc b1 q)))
+    (subst (λ (v : ℤ). IsSeries q g1 g2 g u1 v d b1 b2 (series_value q u1 u2)) (sym (up_wave-waves q x e r (trunc b2 q)))
     (series_solved q m (q - m) g1 g2 g u1 u2 d (conductance-pos q (series_first q f m r) l unit first s.2) (whole_of q m s.1) (series_law q f m l r s.1))) in (
       is,
-      record { first = down-waves q x e l (trunc b1 q); second = down-waves q x e r (trunc b2 q); up = refl },
+      record { first = down_wave-waves q x e l (trunc b1 q); second = down_wave-waves q x e r (trunc b2 q); up = refl },
       follows q (series_first q f m r) x e l (trunc b1 q) unit first s.2,
       follows q (series_second q f m l) x e r (trunc b2 q) unit second s.3,
     )
@@ -65,18 +65,18 @@ follows q f x e (parallel m l r) d unit some s =
     let g = conductance q f (parallel m l r) in
     let first = parallel_first-pos q f m r unit some s.0 s.3 in
     let second = parallel_second-pos q f m l unit some s.1 s.2 in
-    let is : IsParallel q g1 g2 g (up wl) (up wr) d b1 b2 b =
-    subst (λ (v : ℤ). IsParallel q g1 g2 g v (up wr) d b1 b2 b) (sym (up-waves q x e l (trunc b1 q)))
-    (subst (λ (v : ℤ). IsParallel q g1 g2 g u1 v d b1 b2 b) (sym (up-waves q x e r (trunc b2 q)))
+    let is : IsParallel q g1 g2 g (up_wave wl) (up_wave wr) d b1 b2 b =
+    subst (λ (v : ℤ). IsParallel q g1 g2 g v (up_wave wr) d b1 b2 b) (sym (up_wave-waves q x e l (trunc b1 q)))
+    (subst (λ (v : ℤ). IsParallel q g1 g2 g u1 v d b1 b2 b) (sym (up_wave-waves q x e r (trunc b2 q)))
     (parallel_solved q m (q - m) g1 g2 g u1 u2 d (whole_of q m s.1) (parallel_law q f m l r s.1))) in (
       is,
-      record { first = down-waves q x e l (trunc b1 q); second = down-waves q x e r (trunc b2 q); up = refl },
+      record { first = down_wave-waves q x e l (trunc b1 q); second = down_wave-waves q x e r (trunc b2 q); up = refl },
       follows q (parallel_first q f m r) x e l (trunc b1 q) unit first s.2,
       follows q (parallel_second q f m l) x e r (trunc b2 q) unit second s.3,
     )
 
 -- waves that meet every law are the solved ones
-pub alone : (q f : ℕ) (x e : ℕ → ℤ) (t : Plain) (w : Waves) → 0 < q → 0 < f → IsSound q t → Follows q x e f t w → w ≡ waves q x e t (down w)
+pub alone : (q f : ℕ) (x e : ℕ → ℤ) (t : AdaptorTree) (w : Waves) → 0 < q → 0 < f → IsSound q t → Follows q x e f t w → w ≡ waves q x e t (down_wave w)
 alone q f x e (leaf i k flip) (ends u d) unit some s h = ap (λ (v : ℤ). ends v d) (reflects k flip (x i) (e i) u d h)
 alone q f x e (leaf i k flip) (forks u d b1 b2 b wl wr) unit some s h = absurd h
 alone q f x e (series m l r) (ends u d) unit some s h = absurd h
@@ -85,10 +85,10 @@ alone q f x e (series m l r) (forks u d b1 b2 b wl wr) unit some s h =
     let second = series_second-pos q f m l unit some s.0 s.2 in
     let left = alone q (series_first q f m r) x e l wl unit first s.2 h.2 in
     let right = alone q (series_second q f m l) x e r wr unit second s.3 h.3 in
-    let u1 : up wl ≡ ups q x e l = ap up left ∙ up-waves q x e l (down wl) in
-    let u2 : up wr ≡ ups q x e r = ap up right ∙ up-waves q x e r (down wr) in
+    let u1 : up_wave wl ≡ ups q x e l = ap up_wave left ∙ up_wave-waves q x e l (down_wave wl) in
+    let u2 : up_wave wr ≡ ups q x e r = ap up_wave right ∙ up_wave-waves q x e r (down_wave wr) in
     let is = series_alone q m (q - m) (conductance q (series_first q f m r) l) (conductance q (series_second q f m l) r) (conductance q f (series m l r))
-    (up wl) (up wr) d b1 b2 b unit (conductance-pos q (series_first q f m r) l unit first s.2) (conductance-pos q (series_second q f m l) r unit second s.3)
+    (up_wave wl) (up_wave wr) d b1 b2 b unit (conductance-pos q (series_first q f m r) l unit first s.2) (conductance-pos q (series_second q f m l) r unit second s.3)
     (whole_of q m s.1) (series_law q f m l r s.1) h.0 in
     let e1 : b1 ≡ series_part q m (ups q x e l) (ups q x e r) d (ups q x e l) = is.first ∙ (λ i. series_part q m (u1 i) (u2 i) d (u1 i)) in
     let e2 : b2 ≡ series_part q (q - m) (ups q x e l) (ups q x e r) d (ups q x e r) = is.second ∙ (λ i. series_part q (q - m) (u1 i) (u2 i) d (u2 i)) in
@@ -105,10 +105,10 @@ alone q f x e (parallel m l r) (forks u d b1 b2 b wl wr) unit some s h =
     let second = parallel_second-pos q f m l unit some s.1 s.2 in
     let left = alone q (parallel_first q f m r) x e l wl unit first s.2 h.2 in
     let right = alone q (parallel_second q f m l) x e r wr unit second s.3 h.3 in
-    let u1 : up wl ≡ ups q x e l = ap up left ∙ up-waves q x e l (down wl) in
-    let u2 : up wr ≡ ups q x e r = ap up right ∙ up-waves q x e r (down wr) in
+    let u1 : up_wave wl ≡ ups q x e l = ap up_wave left ∙ up_wave-waves q x e l (down_wave wl) in
+    let u2 : up_wave wr ≡ ups q x e r = ap up_wave right ∙ up_wave-waves q x e r (down_wave wr) in
     let is = parallel_alone q m (q - m) (conductance q (parallel_first q f m r) l) (conductance q (parallel_second q f m l) r) (conductance q f (parallel m l r))
-    (up wl) (up wr) d b1 b2 b (conductance-pos q f (parallel m l r) unit some s) (whole_of q m s.1) (parallel_law q f m l r s.1) h.0 in
+    (up_wave wl) (up_wave wr) d b1 b2 b (conductance-pos q f (parallel m l r) unit some s) (whole_of q m s.1) (parallel_law q f m l r s.1) h.0 in
     let e1 : b1 ≡ parallel_part q m (q - m) (ups q x e l) (ups q x e r) d (ups q x e l) = is.first ∙ (λ i. parallel_part q m (q - m) (u1 i) (u2 i) d (u1 i)) in
     let e2 : b2 ≡ parallel_part q m (q - m) (ups q x e l) (ups q x e r) d (ups q x e r) = is.second ∙ (λ i. parallel_part q m (q - m) (u1 i) (u2 i) d (u2 i)) in
     let e0 : b ≡ parallel_value m (q - m) (ups q x e l) (ups q x e r) = is.own ∙ (λ i. parallel_value m (q - m) (u1 i) (u2 i)) in
@@ -131,11 +131,11 @@ solved-steps n s x e =
     let g1 = conductance q (left_factor n) n.left in
     let g2 = conductance q (right_factor n) n.right in
     record {
-      root = subst (λ (v : ℤ). IsRoot q g1 g2 v (up (waves q x e n.right (trunc b2 q))) b1 b2) (sym (up-waves q x e n.left (trunc b1 q)))
-          (subst (λ (v : ℤ). IsRoot q g1 g2 u1 v b1 b2) (sym (up-waves q x e n.right (trunc b2 q)))
+      root = subst (λ (v : ℤ). IsRoot q g1 g2 v (up_wave (waves q x e n.right (trunc b2 q))) b1 b2) (sym (up_wave-waves q x e n.left (trunc b1 q)))
+          (subst (λ (v : ℤ). IsRoot q g1 g2 u1 v b1 b2) (sym (up_wave-waves q x e n.right (trunc b2 q)))
           (root_solved q n.m (q - n.m) g1 g2 u1 u2 (whole_of q n.m s.few) (root_law q n.m n.left n.right s.few)));
-      to_left = down-waves q x e n.left (trunc b1 q);
-      to_right = down-waves q x e n.right (trunc b2 q);
+      to_left = down_wave-waves q x e n.left (trunc b1 q);
+      to_right = down_wave-waves q x e n.right (trunc b2 q);
       left = follows q (left_factor n) x e n.left (trunc b1 q) s.unit (left_factor-pos n s) s.left;
       right = follows q (right_factor n) x e n.right (trunc b2 q) s.unit (right_factor-pos n s) s.right;
     }
@@ -147,14 +147,14 @@ step-alone n s x e f step =
     let g2 = conductance q (right_factor n) n.right in
     let left = alone q (left_factor n) x e n.left f.left s.unit (left_factor-pos n s) s.left step.left in
     let right = alone q (right_factor n) x e n.right f.right s.unit (right_factor-pos n s) s.right step.right in
-    let u1 : up f.left ≡ ups q x e n.left = ap up left ∙ up-waves q x e n.left (down f.left) in
-    let u2 : up f.right ≡ ups q x e n.right = ap up right ∙ up-waves q x e n.right (down f.right) in
+    let u1 : up_wave f.left ≡ ups q x e n.left = ap up_wave left ∙ up_wave-waves q x e n.left (down_wave f.left) in
+    let u2 : up_wave f.right ≡ ups q x e n.right = ap up_wave right ∙ up_wave-waves q x e n.right (down_wave f.right) in
     let some = conductance-pos q (left_factor n) n.left s.unit (left_factor-pos n s) s.left in
     let e1 : f.b1 ≡ root_value q n.m (q - n.m) (ups q x e n.left) (ups q x e n.right) (ups q x e n.left) =
-    root_alone_first q n.m (q - n.m) g1 g2 (up f.left) (up f.right) f.b1 f.b2 some (whole_of q n.m s.few) (root_law q n.m n.left n.right s.few) step.root
+    root_alone_first q n.m (q - n.m) g1 g2 (up_wave f.left) (up_wave f.right) f.b1 f.b2 some (whole_of q n.m s.few) (root_law q n.m n.left n.right s.few) step.root
     ∙ (λ i. root_value q n.m (q - n.m) (u1 i) (u2 i) (u1 i)) in
     let e2 : f.b2 ≡ root_value q n.m (q - n.m) (ups q x e n.left) (ups q x e n.right) (ups q x e n.right) =
-    root_alone_second q n.m (q - n.m) g1 g2 (up f.left) (up f.right) f.b1 f.b2 some (whole_of q n.m s.few) (root_law q n.m n.left n.right s.few) step.root
+    root_alone_second q n.m (q - n.m) g1 g2 (up_wave f.left) (up_wave f.right) f.b1 f.b2 some (whole_of q n.m s.few) (root_law q n.m n.left n.right s.few) step.root
     ∙ (λ i. root_value q n.m (q - n.m) (u1 i) (u2 i) (u2 i)) in
     let below1 = left ∙ ap (waves q x e n.left) (step.to_left ∙ ap (λ (v : ℤ). trunc v q) e1) in
     let below2 = right ∙ ap (waves q x e n.right) (step.to_right ∙ ap (λ (v : ℤ). trunc v q) e2) in

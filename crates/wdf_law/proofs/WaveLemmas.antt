@@ -2,15 +2,15 @@
 use Rattle.std.proofs.Common.{◌≡◌, ℕ, ◌+◌, ◌*◌, ◌≤◌, Bool, true, false, cond, ◌==◌, List, [], ◌∷◌, arith}
 use lib.IntN.{ℤ}
 use Rattle.wdf_algebra.specs.Squares.{square}
-use Rattle.wdf_law.specs.Trees.{Plain, leaf, series, parallel}
+use Rattle.wdf_law.specs.Trees.{AdaptorTree, leaf, series, parallel}
 use Rattle.wdf_law.specs.Network.{Network, IsNetwork, unit_of}
 use Rattle.wdf_law.specs.Conductance.{conductance, series_first, series_second, parallel_first, parallel_second}
 use Rattle.wdf_law.specs.Step.{Waves, ends, forks, Frame, after}
-use Rattle.wdf_law.specs.Run.{states, rest, IsRun}
+use Rattle.wdf_law.specs.Run.{states, at_rest, IsRun}
 use Rattle.wdf_law.specs.Energy.{if_absorbing, absorbed_in, taken_in, left_factor, right_factor, stored, incident, all_absorbed, all_taken}
 use Rattle.wdf_law.specs.Laws.{IsRunBounded, BoundsEveryWave}
 use Rattle.wdf_law.proofs.ConductanceLemmas.{sound_trees}
-use Rattle.wdf_law.proofs.StateLemmas.{stored-rest}
+use Rattle.wdf_law.proofs.StateLemmas.{stored-at_rest}
 use Rattle.wdf_law.proofs.EnergyLemmas.{step_keeps, run_keeps}
 use Rattle.wdf_law.proofs.BoundLemmas.{step-bounded}
 
@@ -24,7 +24,7 @@ run-bounded n rules c zs (e ∷ es) (s ∷ ss) h run =
     )
 
 -- one element's share is at most the whole
-part_taken : (q j f : ℕ) (t : Plain) (w : Waves) → taken_in q j f t w ≤ absorbed_in q f t w
+part_taken : (q j f : ℕ) (t : AdaptorTree) (w : Waves) → taken_in q j f t w ≤ absorbed_in q f t w
 part_taken q j f (leaf i k flip) (ends u d) = by (i == j)
   where
     by : (b : Bool) → cond {A = ℕ} b (if_absorbing k (conductance q f (leaf i k flip) * square d)) 0 ≤ if_absorbing k (conductance q f (leaf i k flip) * square d)
@@ -54,11 +54,11 @@ pub bounds_every_wave : (n : Network) → IsNetwork n → BoundsEveryWave n
 bounds_every_wave n rules = record {
   step = λ zs e s step. step-bounded n (stored n zs + incident n e) (states n zs) e s (sound_trees n rules) (omega arith) step;
   run = λ es ss run.
-      let none : stored n (rest n) ≡ 0 = stored-rest n in
-      run-bounded n rules 0 (rest n) es ss (omega arith) run;
+      let none : stored n (at_rest n) ≡ 0 = stored-at_rest n in
+      run-bounded n rules 0 (at_rest n) es ss (omega arith) run;
   sums = λ j es ss run.
-      let none : stored n (rest n) ≡ 0 = stored-rest n in
-      let all = run_keeps n rules (rest n) es ss run in
+      let none : stored n (at_rest n) ≡ 0 = stored-at_rest n in
+      let all = run_keeps n rules (at_rest n) es ss run in
       let part = parts_taken n j ss in
       omega arith;
 }

@@ -5,34 +5,34 @@
 --   root                            q·g1 = m·(g1 + g2)
 -- The unit is the network's own: only ratios of conductances count.
 use Rattle.std.specs.Prelude.{ℕ, ◌*◌, ◌-◌}
-use Rattle.wdf_law.specs.Trees.{Plain, leaf, series, parallel}
+use Rattle.wdf_law.specs.Trees.{AdaptorTree, leaf, series, parallel}
 
 -- the clearing number of a tree, which makes the conductances of its ports whole
-abbrev pub clearing : ℕ → Plain → ℕ
+abbrev pub clearing : ℕ → AdaptorTree → ℕ
 clearing q (leaf _ _ _) = 1
 clearing q (series m l r) = m * (q - m) * clearing q l * clearing q r
 clearing q (parallel m l r) = q * clearing q l * clearing q r
 
 -- the conductance of a tree's own port, where it has the factor f
-abbrev pub conductance : ℕ → ℕ → Plain → ℕ
+abbrev pub conductance : ℕ → ℕ → AdaptorTree → ℕ
 conductance q f t = f * clearing q t
 
 -- the factors of a junction's parts, f being its own; r is the second part and l the first
-abbrev pub series_first : ℕ → ℕ → ℕ → Plain → ℕ
+abbrev pub series_first : ℕ → ℕ → ℕ → AdaptorTree → ℕ
 series_first q f m r = f * q * (q - m) * clearing q r
 
-abbrev pub series_second : ℕ → ℕ → ℕ → Plain → ℕ
+abbrev pub series_second : ℕ → ℕ → ℕ → AdaptorTree → ℕ
 series_second q f m l = f * q * m * clearing q l
 
-abbrev pub parallel_first : ℕ → ℕ → ℕ → Plain → ℕ
+abbrev pub parallel_first : ℕ → ℕ → ℕ → AdaptorTree → ℕ
 parallel_first q f m r = f * m * clearing q r
 
-abbrev pub parallel_second : ℕ → ℕ → ℕ → Plain → ℕ
+abbrev pub parallel_second : ℕ → ℕ → ℕ → AdaptorTree → ℕ
 parallel_second q f m l = f * (q - m) * clearing q l
 
 -- the factors of the left and of the right tree at the root
-abbrev pub root_first : ℕ → ℕ → Plain → ℕ
+abbrev pub root_first : ℕ → ℕ → AdaptorTree → ℕ
 root_first q m right = m * clearing q right
 
-abbrev pub root_second : ℕ → ℕ → Plain → ℕ
+abbrev pub root_second : ℕ → ℕ → AdaptorTree → ℕ
 root_second q m left = (q - m) * clearing q left

@@ -28,8 +28,8 @@ pub record IsInductor (x u d : ℤ) : Type 0 where
   pub trapezoid : (v j : ℤ) → v +ℤ j ≡ pos 2 *ℤ x → (d -ℤ u) -ℤ j ≡ (d +ℤ u) +ℤ v
 
 -- the law of an element of this kind, with the state x and the source's value e
-abbrev pub IsElement : Kind → Bool → ℤ → ℤ → ℤ → ℤ → Type 0
-IsElement Res flip x e u d = IsResistor u d
-IsElement Src flip x e u d = IsSource (signed flip e) u d
-IsElement Cap flip x e u d = IsCapacitor x u d
-IsElement Ind flip x e u d = IsInductor x u d
+abbrev pub ObeysElementLaw : Kind → Bool → ℤ → ℤ → ℤ → ℤ → Type 0
+ObeysElementLaw Res flip x e u d = IsResistor u d
+ObeysElementLaw Src flip x e u d = IsSource (signed flip e) u d
+ObeysElementLaw Cap flip x e u d = IsCapacitor x u d
+ObeysElementLaw Ind flip x e u d = IsInductor x u d

@@ -4,7 +4,7 @@ use Rattle.std.specs.Prelude.{ℕ, ◌+◌, ◌*◌, ◌==◌, if◌then◌else�
 use Rattle.wdf_algebra.specs.Squares.{square}
 use Rattle.wdf_law.specs.declared.kind.Kind.{Kind}
 use Rattle.wdf_law.specs.declared.kind.Kind.TheVariants.{Res, Cap, Ind, Src}
-use Rattle.wdf_law.specs.Trees.{Plain, leaf, series, parallel}
+use Rattle.wdf_law.specs.Trees.{AdaptorTree, leaf, series, parallel}
 use Rattle.wdf_law.specs.Network.{Network, unit_of}
 use Rattle.wdf_law.specs.Conductance.{conductance, series_first, series_second, parallel_first, parallel_second, root_first, root_second}
 use Rattle.wdf_law.specs.Step.{Waves, ends, forks, Frame, after}
@@ -30,19 +30,19 @@ if_absorbing Cap n = 0
 if_absorbing Ind n = 0
 
 -- the sum of g·x² over the reactances of a tree with the factor f, by the element's number
-abbrev pub stored_in : ℕ → (ℕ → ℤ) → ℕ → Plain → ℕ
+abbrev pub stored_in : ℕ → (ℕ → ℤ) → ℕ → AdaptorTree → ℕ
 stored_in q x f (leaf i k flip) = if_reactance k (conductance q f (leaf i k flip) * square (x i))
 stored_in q x f (series m l r) = stored_in q x (series_first q f m r) l + stored_in q x (series_second q f m l) r
 stored_in q x f (parallel m l r) = stored_in q x (parallel_first q f m r) l + stored_in q x (parallel_second q f m l) r
 
 -- the sum of g·e² over the sources
-abbrev pub incident_in : ℕ → (ℕ → ℤ) → ℕ → Plain → ℕ
+abbrev pub incident_in : ℕ → (ℕ → ℤ) → ℕ → AdaptorTree → ℕ
 incident_in q e f (leaf i k flip) = if_source k (conductance q f (leaf i k flip) * square (e i))
 incident_in q e f (series m l r) = incident_in q e (series_first q f m r) l + incident_in q e (series_second q f m l) r
 incident_in q e f (parallel m l r) = incident_in q e (parallel_first q f m r) l + incident_in q e (parallel_second q f m l) r
 
 -- the sum of g·d² over the resistors and the sources, d being the wave that is sent there
-abbrev pub absorbed_in : ℕ → ℕ → Plain → Waves → ℕ
+abbrev pub absorbed_in : ℕ → ℕ → AdaptorTree → Waves → ℕ
 absorbed_in q f (leaf i k flip) (ends u d) = if_absorbing k (conductance q f (leaf i k flip) * square d)
 absorbed_in q f (leaf i k flip) (forks u d b1 b2 b wl wr) = 0
 absorbed_in q f (series m l r) (ends u d) = 0
@@ -83,7 +83,7 @@ at_end n zs [] = zs
 at_end n zs (s ∷ ss) = at_end n (after n s) ss
 
 -- g·d² at the resistor or source with the number j, 0 where there is none
-abbrev pub taken_in : ℕ → ℕ → ℕ → Plain → Waves → ℕ
+abbrev pub taken_in : ℕ → ℕ → ℕ → AdaptorTree → Waves → ℕ
 taken_in q j f (leaf i k flip) (ends u d) = if i == j then if_absorbing k (conductance q f (leaf i k flip) * square d) else 0
 taken_in q j f (leaf i k flip) (forks u d b1 b2 b wl wr) = 0
 taken_in q j f (series m l r) (ends u d) = 0

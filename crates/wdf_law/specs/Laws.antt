@@ -2,11 +2,11 @@
 use Rattle.std.specs.Prelude.{◌≡◌, ℕ, ◌+◌, ◌*◌, ◌<◌, ◌≤◌, ℤ, pos, ◌*ℤ◌, List, [], ◌∷◌}
 use Rattle.wdf_algebra.specs.Squares.{square}
 use Rattle.wdf_algebra.specs.Truncation.{trunc}
-use Rattle.wdf_law.specs.Trees.{Plain, leaf, series, parallel}
+use Rattle.wdf_law.specs.Trees.{AdaptorTree, leaf, series, parallel}
 use Rattle.wdf_law.specs.Network.{Network, unit_of}
 use Rattle.wdf_law.specs.Conductance.{conductance, series_first, series_second, parallel_first, parallel_second}
 use Rattle.wdf_law.specs.Step.{Waves, ends, forks, Frame, IsStep, after}
-use Rattle.wdf_law.specs.Run.{states, rest, IsRun}
+use Rattle.wdf_law.specs.Run.{states, at_rest, IsRun}
 use Rattle.wdf_law.specs.Energy.{left_factor, right_factor, stored, incident, absorbed, all_incident, all_absorbed, all_taken, at_end}
 
 -- ---- conductances
@@ -22,7 +22,7 @@ pub record AreSeries (q m g1 g2 g : ℕ) : Type 0 where
   pub first : q * g ≡ m * g1
 
 -- every port of a tree with the factor f has a positive conductance, and every junction's three fit its multiplier
-abbrev pub HaveConductances : ℕ → ℕ → Plain → Type 0
+abbrev pub HaveConductances : ℕ → ℕ → AdaptorTree → Type 0
 HaveConductances q f (leaf i k flip) = 0 < conductance q f (leaf i k flip)
 HaveConductances q f (series m l r) =
     (0 < conductance q f (series m l r))
@@ -50,18 +50,18 @@ pub record HasOneStep (n : Network) : Type 0 where
 -- ---- energy
 
 -- q divides each outgoing value, so nothing is lost
-abbrev pub IsWhole : ℕ → ℤ → Type 0
-IsWhole q b = pos q *ℤ trunc b q ≡ b
+abbrev pub IsExact : ℕ → ℤ → Type 0
+IsExact q b = pos q *ℤ trunc b q ≡ b
 
-abbrev pub AreWhole : ℕ → Waves → Type 0
-AreWhole q (ends u d) = Unit {0}
-AreWhole q (forks u d b1 b2 b wl wr) = IsWhole q b1 × IsWhole q b2 × IsWhole q b × AreWhole q wl × AreWhole q wr
+abbrev pub AreExact : ℕ → Waves → Type 0
+AreExact q (ends u d) = Unit {0}
+AreExact q (forks u d b1 b2 b wl wr) = IsExact q b1 × IsExact q b2 × IsExact q b × AreExact q wl × AreExact q wr
 
 pub record IsLossless (n : Network) (s : Frame) : Type 0 where
-  pub first : IsWhole (unit_of n) s.b1
-  pub second : IsWhole (unit_of n) s.b2
-  pub left : AreWhole (unit_of n) s.left
-  pub right : AreWhole (unit_of n) s.right
+  pub first : IsExact (unit_of n) s.b1
+  pub second : IsExact (unit_of n) s.b2
+  pub left : AreExact (unit_of n) s.left
+  pub right : AreExact (unit_of n) s.right
 
 pub record KeepsEnergy (n : Network) : Type 0 where
   -- what is stored after a step and what was absorbed is at most what was stored before and what came in
@@ -71,8 +71,8 @@ pub record KeepsEnergy (n : Network) : Type 0 where
   pub lossless : (zs : List ℤ) (e : ℕ → ℤ) (s : Frame) → IsStep n (states n zs) e s → IsLossless n s
       → stored n (after n s) + absorbed n s ≡ stored n zs + incident n e
   -- and so over a run from rest
-  pub run : (es : List (ℕ → ℤ)) (ss : List Frame) → IsRun n (rest n) es ss
-      → stored n (at_end n (rest n) ss) + all_absorbed n ss ≤ all_incident n es
+  pub run : (es : List (ℕ → ℤ)) (ss : List Frame) → IsRun n (at_rest n) es ss
+      → stored n (at_end n (at_rest n) ss) + all_absorbed n ss ≤ all_incident n es
 
 -- ---- every wave
 
@@ -82,7 +82,7 @@ IsBounded c g z = g * square z ≤ c
 
 -- at every port of a tree both waves are bounded by c, with the port's own conductance, and before truncation
 -- each outgoing value by q²·c, with the conductance of the port that it is sent to
-abbrev pub AreBounded : ℕ → ℕ → ℕ → Plain → Waves → Type 0
+abbrev pub AreBounded : ℕ → ℕ → ℕ → AdaptorTree → Waves → Type 0
 AreBounded q c f (leaf i k flip) (ends u d) = IsBounded c (conductance q f (leaf i k flip)) u × IsBounded c (conductance q f (leaf i k flip)) d
 AreBounded q c f (leaf i k flip) (forks u d b1 b2 b wl wr) = ⊥
 AreBounded q c f (series m l r) (ends u d) = ⊥
@@ -116,6 +116,6 @@ pub record BoundsEveryWave (n : Network) : Type 0 where
   -- by what was stored and what comes in
   pub step : (zs : List ℤ) (e : ℕ → ℤ) (s : Frame) → IsStep n (states n zs) e s → IsFrameBounded n (stored n zs + incident n e) s
   -- in a run from rest by what was sent in so far
-  pub run : (es : List (ℕ → ℤ)) (ss : List Frame) → IsRun n (rest n) es ss → IsRunBounded n 0 es ss
+  pub run : (es : List (ℕ → ℤ)) (ss : List Frame) → IsRun n (at_rest n) es ss → IsRunBounded n 0 es ss
   -- and a resistor or source takes up no more than all that was sent in
-  pub sums : (j : ℕ) (es : List (ℕ → ℤ)) (ss : List Frame) → IsRun n (rest n) es ss → all_taken n j ss ≤ all_incident n es
+  pub sums : (j : ℕ) (es : List (ℕ → ℤ)) (ss : List Frame) → IsRun n (at_rest n) es ss → all_taken n j ss ≤ all_incident n es

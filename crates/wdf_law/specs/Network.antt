@@ -7,33 +7,33 @@ use Rattle.wdf_law.specs.declared.kind.Kind.TheVariants.{Res, Cap, Ind, Src}
 use Rattle.wdf_law.specs.declared.outlet.Outlet.{Outlet}
 use Rattle.wdf_law.specs.declared.outlet.Outlet.TheVariants.{Load, Source}
 use Rattle.wdf_law.specs.declared.tree.Tree.{Tree}
-use Rattle.wdf_law.specs.Trees.{Plain, plain, leaf, series, parallel, Element, elements_of, first_of, depth_of}
+use Rattle.wdf_law.specs.Trees.{AdaptorTree, adaptor_tree, leaf, series, parallel, LeafElement, elements_of, first_of, depth_of}
 
 pub record Network : Type 0 where
   pub k : ℕ
   pub m : ℕ
-  pub left : Plain
-  pub right : Plain
+  pub left : AdaptorTree
+  pub right : AdaptorTree
   pub outlet : Outlet
 
 -- a network by the fields of its type
 abbrev pub network_of : ℕ → ℕ → Tree → Tree → Outlet → Network
-network_of k m left right outlet = record { k = k; m = m; left = plain left; right = plain right; outlet = outlet }
+network_of k m left right outlet = record { k = k; m = m; left = adaptor_tree left; right = adaptor_tree right; outlet = outlet }
 
 -- q = 2^k, the units of 1/q in a whole
 abbrev pub unit_of : Network → ℕ
 unit_of n = 2 ^ n.k
 
 -- the elements, left tree before right tree
-abbrev pub elements : Network → List Element
+abbrev pub elements : Network → List LeafElement
 elements n = elements_of n.left ++ elements_of n.right
 
 -- the numbers of a tree's elements, and of a network's
-abbrev pub numbers_of : Plain → List ℕ
-numbers_of t = map (λ (x : Element). x.number) (elements_of t)
+abbrev pub numbers_of : AdaptorTree → List ℕ
+numbers_of t = map (λ (x : LeafElement). x.number) (elements_of t)
 
 abbrev pub numbers : Network → List ℕ
-numbers n = map (λ (x : Element). x.number) (elements n)
+numbers n = map (λ (x : LeafElement). x.number) (elements n)
 
 -- an adaptor: the multiplier of a junction and the number of its first leaf
 pub record Adaptor : Type 0 where
@@ -41,17 +41,17 @@ pub record Adaptor : Type 0 where
   pub first : ℕ
 
 -- the adaptors of a tree, each before those of its parts
-abbrev pub adaptors_of : Plain → List Adaptor
+abbrev pub adaptors_of : AdaptorTree → List Adaptor
 adaptors_of (leaf elem _ _) = []
 adaptors_of (series m l r) = record { multiplier = m; first = first_of l } ∷ adaptors_of l ++ adaptors_of r
 adaptors_of (parallel m l r) = record { multiplier = m; first = first_of l } ∷ adaptors_of l ++ adaptors_of r
 
 -- their multipliers
-abbrev pub multipliers_of : Plain → List ℕ
+abbrev pub multipliers_of : AdaptorTree → List ℕ
 multipliers_of t = map (λ (a : Adaptor). a.multiplier) (adaptors_of t)
 
 -- the root, then the adaptors of the left tree and of the right tree
-abbrev pub adaptors_between : ℕ → Plain → Plain → List Adaptor
+abbrev pub adaptors_between : ℕ → AdaptorTree → AdaptorTree → List Adaptor
 adaptors_between m left right = record { multiplier = m; first = first_of left } ∷ adaptors_of left ++ adaptors_of right
 
 abbrev pub adaptors : Network → List Adaptor
@@ -81,24 +81,24 @@ is_reactance Res = false
 is_reactance Src = false
 
 -- an element with this number that is a capacitor or an inductor is among the elements
-abbrev pub has_reactance : List Element → ℕ → Bool
-has_reactance xs i = list_any (λ (x : Element). (x.number == i) && is_reactance x.kind) xs
+abbrev pub has_reactance : List LeafElement → ℕ → Bool
+has_reactance xs i = list_any (λ (x : LeafElement). (x.number == i) && is_reactance x.kind) xs
 
 -- a resistor with this number is among the elements
-abbrev pub has_resistor : List Element → ℕ → Bool
-has_resistor xs i = list_any (λ (x : Element). (x.number == i) && is_resistor x.kind) xs
+abbrev pub has_resistor : List LeafElement → ℕ → Bool
+has_resistor xs i = list_any (λ (x : LeafElement). (x.number == i) && is_resistor x.kind) xs
 
 -- a load is the number of a resistor
-abbrev pub has_outlet : List Element → Outlet → Bool
+abbrev pub has_outlet : List LeafElement → Outlet → Bool
 has_outlet xs (Load i) = has_resistor xs i
 has_outlet xs Source = true
 
 -- the elements of a tree that are sources, and of a network
-abbrev pub sources_of : Plain → List Element
-sources_of t = filter (λ (x : Element). is_source x.kind) (elements_of t)
+abbrev pub sources_of : AdaptorTree → List LeafElement
+sources_of t = filter (λ (x : LeafElement). is_source x.kind) (elements_of t)
 
-abbrev pub sources : Network → List Element
-sources n = filter (λ (x : Element). is_source x.kind) (elements n)
+abbrev pub sources : Network → List LeafElement
+sources n = filter (λ (x : LeafElement). is_source x.kind) (elements n)
 
 -- how often a number stands in a list
 abbrev pub times_in : List ℕ → ℕ → ℕ

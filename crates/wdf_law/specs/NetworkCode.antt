@@ -7,7 +7,7 @@ use Rattle.wdf_law.specs.declared.kind.Kind.{Kind}
 use Rattle.wdf_law.specs.declared.kind.Kind.TheVariants.{Res, Cap, Ind, Src}
 use Rattle.wdf_law.specs.declared.outlet.Outlet.{Outlet}
 use Rattle.wdf_law.specs.declared.outlet.Outlet.TheVariants.{Load, Source}
-use Rattle.wdf_law.specs.Trees.{Plain, leaf, series, parallel}
+use Rattle.wdf_law.specs.Trees.{AdaptorTree, leaf, series, parallel}
 use Rattle.wdf_law.specs.Network.{Network}
 
 -- a tag, and up to three numbers
@@ -35,27 +35,27 @@ flip_from zero = false
 flip_from (suc n) = true
 
 -- the tokens of a tree before others
-abbrev pub written : Plain → List Token → List Token
+abbrev pub written : AdaptorTree → List Token → List Token
 written (leaf i k f) rest = (0, (i, (kind_number k, flip_number f))) ∷ rest
 written (series m l r) rest = written l (written r ((1, (m, (0, 0))) ∷ rest))
 written (parallel m l r) rest = written l (written r ((2, (m, (0, 0))) ∷ rest))
 
 -- the two uppermost trees of a stack joined
-abbrev pub joined : (Plain → Plain → Plain) → List Plain → List Plain
+abbrev pub joined : (AdaptorTree → AdaptorTree → AdaptorTree) → List AdaptorTree → List AdaptorTree
 joined join [] = []
 joined join (r ∷ []) = r ∷ []
 joined join (r ∷ l ∷ stack) = join l r ∷ stack
 
-abbrev pub grown : ℕ → ℕ → ℕ → ℕ → List Plain → List Plain
+abbrev pub grown : ℕ → ℕ → ℕ → ℕ → List AdaptorTree → List AdaptorTree
 grown zero a b c stack = leaf a (kind_from b) (flip_from c) ∷ stack
 grown (suc zero) a b c stack = joined (series a) stack
 grown (suc (suc n)) a b c stack = joined (parallel a) stack
 
-abbrev pub read : List Token → List Plain → List Plain
+abbrev pub read : List Token → List AdaptorTree → List AdaptorTree
 read [] stack = stack
 read (t ∷ ts) stack = read ts (grown t.0 t.1.0 t.1.1.0 t.1.1.1 stack)
 
-abbrev pub uppermost : List Plain → Plain
+abbrev pub uppermost : List AdaptorTree → AdaptorTree
 uppermost [] = leaf 0 Res false
 uppermost (t ∷ stack) = t
 
@@ -81,7 +81,7 @@ pub outlet_from-outlet_number : (o : Outlet) → outlet_from (outlet_number o) �
 outlet_from-outlet_number Source = refl
 outlet_from-outlet_number (Load i) = refl
 
-pub read-written : (t : Plain) (rest : List Token) (stack : List Plain) → read (written t rest) stack ≡ read rest (t ∷ stack)
+pub read-written : (t : AdaptorTree) (rest : List Token) (stack : List AdaptorTree) → read (written t rest) stack ≡ read rest (t ∷ stack)
 read-written (leaf i k f) rest stack =
     λ j. read rest (leaf i (kind_from-kind_number k j) (flip_from-flip_number f j) ∷ stack)
 read-written (series m l r) rest stack =
@@ -89,10 +89,10 @@ read-written (series m l r) rest stack =
 read-written (parallel m l r) rest stack =
     read-written l (written r ((2, (m, (0, 0))) ∷ rest)) stack ∙ read-written r ((2, (m, (0, 0))) ∷ rest) (l ∷ stack)
 
-abbrev pub tree_from : List Token → Plain
+abbrev pub tree_from : List Token → AdaptorTree
 tree_from ts = uppermost (read ts [])
 
-pub tree_from-written : (t : Plain) → tree_from (written t []) ≡ t
+pub tree_from-written : (t : AdaptorTree) → tree_from (written t []) ≡ t
 tree_from-written t = ap uppermost (read-written t [] [])
 
 abbrev pub NetworkParts : Type 0

@@ -4,7 +4,7 @@ use Rattle.std.specs.List.{range_with_len, list_any, find}
 use Rattle.std.specs.Option.{option_or, option_map}
 use Rattle.wdf_law.specs.declared.net_error.NetError.{NetError}
 use Rattle.wdf_law.specs.declared.net_error.NetError.TheVariants.{BadWidth, TooDeep, BadMultiplier, BadElement, DoubleElement, MissingElement, NoSource, DoubleSource, NoOutlet}
-use Rattle.wdf_law.specs.Trees.{Element, depth_of}
+use Rattle.wdf_law.specs.Trees.{LeafElement, depth_of}
 use Rattle.wdf_law.specs.Network.{Network, Adaptor, unit_of, elements, numbers, adaptors, sources, has_outlet}
 
 -- ---- the rules, each as a test or as the first place at which it is broken
@@ -43,7 +43,7 @@ abbrev pub least_missing : List ℕ → ℕ → Option ℕ
 least_missing xs count = find (λ (i : ℕ). not (is_among xs i)) (range_with_len 0 count)
 
 -- no source, or the number of the second
-abbrev pub source_fault : List Element → Option NetError
+abbrev pub source_fault : List LeafElement → Option NetError
 source_fault [] = Some NoSource
 source_fault (x ∷ []) = None
 source_fault (x ∷ y ∷ rest) = Some (DoubleSource y.number)

@@ -14,8 +14,8 @@ abbrev pub states : Network → List ℤ → ℕ → ℤ
 states n zs = entry (reactances n) zs
 
 -- at rest every state is 0
-abbrev pub rest : Network → List ℤ
-rest n = map (λ (i : ℕ). pos 0) (reactances n)
+abbrev pub at_rest : Network → List ℤ
+at_rest n = map (λ (i : ℕ). pos 0) (reactances n)
 
 -- a run from the states zs: one frame for each input, which gives each source its value
 abbrev pub IsRun : Network → List ℤ → List (ℕ → ℤ) → List Frame → Type 0

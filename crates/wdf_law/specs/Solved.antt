@@ -6,7 +6,7 @@ use Rattle.wdf_algebra.proofs.ParallelJunction.{parallel_value, parallel_part}
 use Rattle.wdf_algebra.proofs.SeriesJunction.{series_value, series_part}
 use Rattle.wdf_law.specs.declared.kind.Kind.{Kind}
 use Rattle.wdf_law.specs.declared.kind.Kind.TheVariants.{Res, Cap, Ind, Src}
-use Rattle.wdf_law.specs.Trees.{Plain, leaf, series, parallel}
+use Rattle.wdf_law.specs.Trees.{AdaptorTree, leaf, series, parallel}
 use Rattle.wdf_law.specs.Network.{Network, unit_of}
 use Rattle.wdf_law.specs.Elements.{signed}
 use Rattle.wdf_law.specs.Step.{Waves, ends, forks, Frame}
@@ -19,13 +19,13 @@ reflected Cap flip x e = x
 reflected Ind flip x e = neg_ℤ x
 
 -- the up wave of a tree
-abbrev pub ups : ℕ → (ℕ → ℤ) → (ℕ → ℤ) → Plain → ℤ
+abbrev pub ups : ℕ → (ℕ → ℤ) → (ℕ → ℤ) → AdaptorTree → ℤ
 ups q x e (leaf i k flip) = reflected k flip (x i) (e i)
 ups q x e (series m l r) = trunc (series_value q (ups q x e l) (ups q x e r)) q
 ups q x e (parallel m l r) = trunc (parallel_value m (q - m) (ups q x e l) (ups q x e r)) q
 
 -- its waves where it is sent d
-abbrev pub waves : ℕ → (ℕ → ℤ) → (ℕ → ℤ) → Plain → ℤ → Waves
+abbrev pub waves : ℕ → (ℕ → ℤ) → (ℕ → ℤ) → AdaptorTree → ℤ → Waves
 waves q x e (leaf i k flip) d = ends (reflected k flip (x i) (e i)) d
 waves q x e (series m l r) d =
     let u1 = ups q x e l in

@@ -4,11 +4,11 @@
 use Rattle.std.specs.Prelude.{◌≡◌, ℕ, ℤ, pos, Bool, ◌==◌, if◌then◌else◌, List, map}
 use Rattle.std.specs.List.{list_any}
 use Rattle.wdf_algebra.specs.Truncation.{trunc}
-use Rattle.wdf_law.specs.Trees.{Plain, leaf, series, parallel, Element, elements_of}
+use Rattle.wdf_law.specs.Trees.{AdaptorTree, leaf, series, parallel, LeafElement, elements_of}
 use Rattle.wdf_law.specs.Network.{Network, unit_of, reactances}
 use Rattle.wdf_law.specs.Conductance.{conductance, series_first, series_second, parallel_first, parallel_second, root_first, root_second}
 use Rattle.wdf_law.specs.Junction.{IsParallel, IsSeries, IsRoot, Truncates}
-use Rattle.wdf_law.specs.Elements.{IsElement}
+use Rattle.wdf_law.specs.Elements.{ObeysElementLaw}
 
 -- A tree's waves, in its shape: at each port the wave u that the tree reflects and the wave d that it is
 -- sent, at each junction the outgoing values b1 and b2 to its parts and b to its own port as well.
@@ -16,29 +16,29 @@ pub data Waves : Type 0 where
   ends : (u d : ℤ) → Waves
   forks : (u d b1 b2 b : ℤ) (l r : Waves) → Waves
 
-abbrev pub up : Waves → ℤ
-up (ends u d) = u
-up (forks u d b1 b2 b l r) = u
+abbrev pub up_wave : Waves → ℤ
+up_wave (ends u d) = u
+up_wave (forks u d b1 b2 b l r) = u
 
-abbrev pub down : Waves → ℤ
-down (ends u d) = d
-down (forks u d b1 b2 b l r) = d
+abbrev pub down_wave : Waves → ℤ
+down_wave (ends u d) = d
+down_wave (forks u d b1 b2 b l r) = d
 
 -- The waves meet every law of a tree with the factor f, where the element i has the state x i and, as a
 -- source, the value e i.
-abbrev pub Follows : ℕ → (ℕ → ℤ) → (ℕ → ℤ) → ℕ → Plain → Waves → Type 0
-Follows q x e f (leaf i k flip) (ends u d) = IsElement k flip (x i) (e i) u d
+abbrev pub Follows : ℕ → (ℕ → ℤ) → (ℕ → ℤ) → ℕ → AdaptorTree → Waves → Type 0
+Follows q x e f (leaf i k flip) (ends u d) = ObeysElementLaw k flip (x i) (e i) u d
 Follows q x e f (leaf i k flip) (forks u d b1 b2 b wl wr) = ⊥
 Follows q x e f (series m l r) (ends u d) = ⊥
 Follows q x e f (series m l r) (forks u d b1 b2 b wl wr) =
-    IsSeries q (conductance q (series_first q f m r) l) (conductance q (series_second q f m l) r) (conductance q f (series m l r)) (up wl) (up wr) d b1 b2 b
-    × Truncates q u (down wl) (down wr) b1 b2 b
+    IsSeries q (conductance q (series_first q f m r) l) (conductance q (series_second q f m l) r) (conductance q f (series m l r)) (up_wave wl) (up_wave wr) d b1 b2 b
+    × Truncates q u (down_wave wl) (down_wave wr) b1 b2 b
     × Follows q x e (series_first q f m r) l wl
     × Follows q x e (series_second q f m l) r wr
 Follows q x e f (parallel m l r) (ends u d) = ⊥
 Follows q x e f (parallel m l r) (forks u d b1 b2 b wl wr) =
-    IsParallel q (conductance q (parallel_first q f m r) l) (conductance q (parallel_second q f m l) r) (conductance q f (parallel m l r)) (up wl) (up wr) d b1 b2 b
-    × Truncates q u (down wl) (down wr) b1 b2 b
+    IsParallel q (conductance q (parallel_first q f m r) l) (conductance q (parallel_second q f m l) r) (conductance q f (parallel m l r)) (up_wave wl) (up_wave wr) d b1 b2 b
+    × Truncates q u (down_wave wl) (down_wave wr) b1 b2 b
     × Follows q x e (parallel_first q f m r) l wl
     × Follows q x e (parallel_second q f m l) r wr
 
@@ -51,18 +51,18 @@ pub record Frame : Type 0 where
 
 -- the step of a network from the states x with the inputs e, both by the element's number
 pub record IsStep (n : Network) (x e : ℕ → ℤ) (s : Frame) : Type 0 where
-  pub root : IsRoot (unit_of n) (conductance (unit_of n) (root_first (unit_of n) n.m n.right) n.left) (conductance (unit_of n) (root_second (unit_of n) n.m n.left) n.right) (up s.left) (up s.right) s.b1 s.b2
-  pub to_left : down s.left ≡ trunc s.b1 (unit_of n)
-  pub to_right : down s.right ≡ trunc s.b2 (unit_of n)
+  pub root : IsRoot (unit_of n) (conductance (unit_of n) (root_first (unit_of n) n.m n.right) n.left) (conductance (unit_of n) (root_second (unit_of n) n.m n.left) n.right) (up_wave s.left) (up_wave s.right) s.b1 s.b2
+  pub to_left : down_wave s.left ≡ trunc s.b1 (unit_of n)
+  pub to_right : down_wave s.right ≡ trunc s.b2 (unit_of n)
   pub left : Follows (unit_of n) x e (root_first (unit_of n) n.m n.right) n.left s.left
   pub right : Follows (unit_of n) x e (root_second (unit_of n) n.m n.left) n.right s.right
 
 -- the tree has a leaf with this number
-abbrev pub has_leaf : Plain → ℕ → Bool
-has_leaf t i = list_any (λ (y : Element). y.number == i) (elements_of t)
+abbrev pub has_leaf : AdaptorTree → ℕ → Bool
+has_leaf t i = list_any (λ (y : LeafElement). y.number == i) (elements_of t)
 
 -- the down wave of the leaf with this number, 0 where there is none
-abbrev pub sent : Plain → Waves → ℕ → ℤ
+abbrev pub sent : AdaptorTree → Waves → ℕ → ℤ
 sent (leaf j _ _) (ends u d) i = if j == i then d else pos 0
 sent (leaf j _ _) (forks u d b1 b2 b wl wr) i = pos 0
 sent (series m l r) (ends u d) i = pos 0

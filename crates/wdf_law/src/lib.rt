@@ -3,7 +3,7 @@
 //! A [`Net`] is a quantised network: two trees of series and parallel adaptors whose leaves are the
 //! elements, joined at the root. `specs/` says what its waves are: Kirchhoff's laws at every
 //! junction before each truncation (`Junction`), Ohm's law and the trapezoidal rule at every
-//! element (`Element`), and from these the reference step and the reference run (`Step`, `Run`).
+//! element (`Elements`), and from these the reference step and the reference run (`Step`, `Run`).
 #![tactic(auto)]
 
 mod kind;

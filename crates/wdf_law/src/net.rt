@@ -1,5 +1,5 @@
 ghost use Rattle.std.specs.Prelude.{◌≡◌, ℕ, ◌<◌, ◌≤◌, ◌^◌, ◌↔◌, ◌++◌, length, None, Some, IsOk, IfOk, slice_get, map};
-ghost use Rattle.wdf_law.specs.Trees.{plain};
+ghost use Rattle.wdf_law.specs.Trees.{adaptor_tree};
 ghost use Rattle.wdf_law.specs.Network.{IsNetwork, Adaptor, network_of, adaptors_of, elements, multipliers, reactances, has_reactance};
 ghost use Rattle.wdf_law.specs.Marks.{number_behind};
 ghost use Rattle.wdf_law.specs.Refusal.{refusal, HasBadWidth, IsTooDeep, HasBadMultiplier, HasBadElement, HasDoubleElement, HasMissingElement, HasNoSource, HasDoubleSource, HasNoOutlet};
@@ -31,12 +31,12 @@ impl Model for Net {
 
     ghost coded = { network_code };
 
-    ghost use Rattle.wdf_law.specs.Trees.{plain};
+    ghost use Rattle.wdf_law.specs.Trees.{adaptor_tree};
     ghost use Rattle.wdf_law.specs.Network.{IsNetwork};
 
-    ghost view = { λ n. record { k = n.k; m = n.m; left = plain n.left; right = plain n.right; outlet = n.outlet } };
+    ghost view = { λ n. record { k = n.k; m = n.m; left = adaptor_tree n.left; right = adaptor_tree n.right; outlet = n.outlet } };
 
-    ghost invariant = { λ n. IsNetwork (record { k = n.k; m = n.m; left = plain n.left; right = plain n.right; outlet = n.outlet }) };
+    ghost invariant = { λ n. IsNetwork (record { k = n.k; m = n.m; left = adaptor_tree n.left; right = adaptor_tree n.right; outlet = n.outlet }) };
 }
 
 impl Net {
@@ -93,13 +93,13 @@ impl Net {
     }
 
     pub fn left(&self) -> &Tree
-        ensures { plain result.now ≡ self.now.left }
+        ensures { adaptor_tree result.now ≡ self.now.left }
     {
         &self.left
     }
 
     pub fn right(&self) -> &Tree
-        ensures { plain result.now ≡ self.now.right }
+        ensures { adaptor_tree result.now ≡ self.now.right }
     {
         &self.right
     }

@@ -1,7 +1,7 @@
 // The rules of a network, one function for each that may be broken.
 ghost use Rattle.std.specs.Prelude.{◌≡◌, ◌≤◌, ◌+◌, ◌^◌, ◌++◌, ◌∷◌, length, map, filter, not, None, IfNone, replicate, slice_index_or, false};
 ghost use Rattle.std.specs.List.{find, range_with_len};
-ghost use Rattle.wdf_law.specs.Trees.{plain, Element, elements_of, first_of};
+ghost use Rattle.wdf_law.specs.Trees.{adaptor_tree, LeafElement, elements_of, first_of};
 ghost use Rattle.wdf_law.specs.Network.{adaptors_between, network_of, numbers_of, sources_of, has_outlet};
 ghost use Rattle.wdf_law.specs.Refusal.{refusal, first_out, first_large, number_fault, source_fault};
 ghost use Rattle.wdf_law.specs.Marks.{first_marked, marked, number_behind};
@@ -11,7 +11,7 @@ use crate::{NetError, Outlet, Tree};
 // The first leaf of the first adaptor whose multiplier is not in 1..=q-1, the root first.
 #[tactic(auto, using(crate::proofs::Walks::walks))]
 fn multiplier_out(q: u32, m: u32, left: &Tree, right: &Tree) -> Option<u32>
-    ensures { result ≡ first_out q (adaptors_between m (plain left.now) (plain right.now)) }
+    ensures { result ≡ first_out q (adaptors_between m (adaptor_tree left.now) (adaptor_tree right.now)) }
 {
     if m < 1 || m >= q {
         return Some(left.first_leaf());
@@ -24,7 +24,7 @@ fn multiplier_out(q: u32, m: u32, left: &Tree, right: &Tree) -> Option<u32>
 
 #[tactic(auto, using(crate::proofs::Walks::walks))]
 fn large(left: &Tree, right: &Tree) -> Option<u32>
-    ensures { result ≡ first_large (numbers_of (plain left.now) ++ numbers_of (plain right.now)) }
+    ensures { result ≡ first_large (numbers_of (adaptor_tree left.now) ++ numbers_of (adaptor_tree right.now)) }
 {
     match left.first_large() {
         Some(elem) => Some(elem),
@@ -34,8 +34,8 @@ fn large(left: &Tree, right: &Tree) -> Option<u32>
 
 #[tactic(auto, using(crate::proofs::Walks::walks))]
 fn double(left: &Tree, right: &Tree, marks: &mut [bool; 128]) -> Option<u32>
-    ensures first { result ≡ first_marked marks.old (numbers_of (plain left.now) ++ numbers_of (plain right.now)) }
-    ensures marks { IfNone result (marks.new ≡ marked marks.old (numbers_of (plain left.now) ++ numbers_of (plain right.now))) }
+    ensures first { result ≡ first_marked marks.old (numbers_of (adaptor_tree left.now) ++ numbers_of (adaptor_tree right.now)) }
+    ensures marks { IfNone result (marks.new ≡ marked marks.old (numbers_of (adaptor_tree left.now) ++ numbers_of (adaptor_tree right.now))) }
 {
     match left.mark(marks) {
         Some(elem) => Some(elem),
@@ -60,7 +60,7 @@ fn missing(marks: &[bool; 128], count: usize) -> Option<u32>
 // The number of the source behind `skip` others, or how many are still to skip.
 #[tactic(auto, using(crate::proofs::Walks::walks))]
 fn source_behind(left: &Tree, right: &Tree, skip: usize) -> Result<u32, usize>
-    ensures { result ≡ number_behind skip (map (λ (x : Element). x.number) (sources_of (plain left.now) ++ sources_of (plain right.now))) }
+    ensures { result ≡ number_behind skip (map (λ (x : LeafElement). x.number) (sources_of (adaptor_tree left.now) ++ sources_of (adaptor_tree right.now))) }
 {
     match left.source_behind(skip) {
         Ok(elem) => Ok(elem),
@@ -71,7 +71,7 @@ fn source_behind(left: &Tree, right: &Tree, skip: usize) -> Result<u32, usize>
 // No source, or a second one.
 #[tactic(auto, using(crate::proofs::Sources::source_faults))]
 fn source(left: &Tree, right: &Tree) -> Option<NetError>
-    ensures { result ≡ source_fault (sources_of (plain left.now) ++ sources_of (plain right.now)) }
+    ensures { result ≡ source_fault (sources_of (adaptor_tree left.now) ++ sources_of (adaptor_tree right.now)) }
 {
     if source_behind(left, right, 0).is_err() {
         return Some(NetError::NoSource);
@@ -84,7 +84,7 @@ fn source(left: &Tree, right: &Tree) -> Option<NetError>
 
 #[tactic(auto, using(crate::proofs::Walks::walks))]
 fn outlet_stands(left: &Tree, right: &Tree, outlet: Outlet) -> bool
-    ensures { result ≡ has_outlet (elements_of (plain left.now) ++ elements_of (plain right.now)) outlet }
+    ensures { result ≡ has_outlet (elements_of (adaptor_tree left.now) ++ elements_of (adaptor_tree right.now)) outlet }
 {
     match outlet {
         Outlet::Load(number) => left.has_resistor(number) || right.has_resistor(number),
@@ -94,7 +94,7 @@ fn outlet_stands(left: &Tree, right: &Tree, outlet: Outlet) -> bool
 
 // A number of 128 or more, a double number, or a missing one.
 fn number_fault(left: &Tree, right: &Tree) -> Option<NetError>
-    ensures { result ≡ number_fault (numbers_of (plain left.now) ++ numbers_of (plain right.now)) }
+    ensures { result ≡ number_fault (numbers_of (adaptor_tree left.now) ++ numbers_of (adaptor_tree right.now)) }
 {
     if let Some(elem) = large(left, right) {
         return Some(NetError::BadElement { elem });

@@ -1,5 +1,5 @@
 ghost use Rattle.std.specs.Prelude.{◌≡◌, ◌≤◌, length, map, nat_le, IfNone};
-ghost use Rattle.wdf_law.specs.Trees.{plain, Element, depth_of, elements_of, first_of};
+ghost use Rattle.wdf_law.specs.Trees.{adaptor_tree, LeafElement, depth_of, elements_of, first_of};
 ghost use Rattle.wdf_law.specs.Network.{adaptors_of, multipliers_of, numbers_of, sources_of, has_resistor, has_reactance};
 ghost use Rattle.wdf_law.specs.Refusal.{first_out, first_large};
 ghost use Rattle.wdf_law.specs.Marks.{first_marked, marked, number_behind};
@@ -21,8 +21,8 @@ pub enum Tree {
 impl Tree {
     /// 0 for a leaf, and one more than its deeper part for a junction.
     pub fn depth(&self) -> usize
-        requires { depth_of (plain self.now) ≤ 128 }
-        ensures { result ≡ depth_of (plain self.now) }
+        requires { depth_of (adaptor_tree self.now) ≤ 128 }
+        ensures { result ≡ depth_of (adaptor_tree self.now) }
     {
         match self {
             Tree::Leaf { .. } => 0,
@@ -32,8 +32,8 @@ impl Tree {
 
     /// How many leaves the tree has.
     pub fn leaf_count(&self) -> usize
-        requires { length (elements_of (plain self.now)) ≤ 128 }
-        ensures { result ≡ length (elements_of (plain self.now)) }
+        requires { length (elements_of (adaptor_tree self.now)) ≤ 128 }
+        ensures { result ≡ length (elements_of (adaptor_tree self.now)) }
     {
         match self {
             Tree::Leaf { .. } => 1,
@@ -44,7 +44,7 @@ impl Tree {
 
     /// The number of the first leaf, the first part before the second.
     pub fn first_leaf(&self) -> u32
-        ensures { result ≡ first_of (plain self.now) }
+        ensures { result ≡ first_of (adaptor_tree self.now) }
     {
         match self {
             Tree::Leaf { elem, .. } => *elem,
@@ -54,7 +54,7 @@ impl Tree {
 
     // Whether no leaf stands below `limit` junctions or more.
     pub(crate) fn within(&self, limit: usize) -> bool
-        ensures { result ≡ nat_le (depth_of (plain self.now)) limit }
+        ensures { result ≡ nat_le (depth_of (adaptor_tree self.now)) limit }
     {
         match self {
             Tree::Leaf { .. } => true,
@@ -67,7 +67,7 @@ impl Tree {
     // The first leaf of the first junction whose multiplier is not in 1..=q-1.
     #[tactic(auto, using(crate::proofs::Walks::walks))]
     pub(crate) fn first_out(&self, q: u32) -> Option<u32>
-        ensures { result ≡ first_out q (adaptors_of (plain self.now)) }
+        ensures { result ≡ first_out q (adaptors_of (adaptor_tree self.now)) }
     {
         match self {
             Tree::Leaf { .. } => None,
@@ -86,7 +86,7 @@ impl Tree {
     // The first number of 128 or more.
     #[tactic(auto, using(crate::proofs::Walks::walks))]
     pub(crate) fn first_large(&self) -> Option<u32>
-        ensures { result ≡ first_large (numbers_of (plain self.now)) }
+        ensures { result ≡ first_large (numbers_of (adaptor_tree self.now)) }
     {
         match self {
             Tree::Leaf { elem, .. } => { if *elem >= 128 { Some(*elem) } else { None } }
@@ -100,8 +100,8 @@ impl Tree {
     // The first number that is marked already. The others below 128 are marked on the way.
     #[tactic(auto, using(crate::proofs::Walks::walks))]
     pub(crate) fn mark(&self, marks: &mut [bool; 128]) -> Option<u32>
-        ensures first { result ≡ first_marked marks.old (numbers_of (plain self.now)) }
-        ensures marks { IfNone result (marks.new ≡ marked marks.old (numbers_of (plain self.now))) }
+        ensures first { result ≡ first_marked marks.old (numbers_of (adaptor_tree self.now)) }
+        ensures marks { IfNone result (marks.new ≡ marked marks.old (numbers_of (adaptor_tree self.now))) }
     {
         match self {
             Tree::Leaf { elem, .. } => {
@@ -124,7 +124,7 @@ impl Tree {
     // The number of the source behind `skip` others, or how many are still to skip.
     #[tactic(auto, using(crate::proofs::Walks::walks))]
     pub(crate) fn source_behind(&self, skip: usize) -> Result<u32, usize>
-        ensures { result ≡ number_behind skip (map (λ (x : Element). x.number) (sources_of (plain self.now))) }
+        ensures { result ≡ number_behind skip (map (λ (x : LeafElement). x.number) (sources_of (adaptor_tree self.now))) }
     {
         match self {
             Tree::Leaf { elem, kind, .. } => {
@@ -146,7 +146,7 @@ impl Tree {
     // The multiplier behind `skip` others, a junction before its parts, or how many are still to skip.
     #[tactic(auto, using(crate::proofs::Walks::walks))]
     pub(crate) fn multiplier_behind(&self, skip: usize) -> Result<u32, usize>
-        ensures { result ≡ number_behind skip (multipliers_of (plain self.now)) }
+        ensures { result ≡ number_behind skip (multipliers_of (adaptor_tree self.now)) }
     {
         match self {
             Tree::Leaf { .. } => Err(skip),
@@ -165,7 +165,7 @@ impl Tree {
     // Whether a resistor has this number.
     #[tactic(auto, using(crate::proofs::Walks::walks))]
     pub(crate) fn has_resistor(&self, number: u32) -> bool
-        ensures { result ≡ has_resistor (elements_of (plain self.now)) number }
+        ensures { result ≡ has_resistor (elements_of (adaptor_tree self.now)) number }
     {
         match self {
             Tree::Leaf { elem, kind, .. } => *elem == number && kind.is_resistor(),
@@ -178,7 +178,7 @@ impl Tree {
     // Whether a capacitor or an inductor has this number.
     #[tactic(auto, using(crate::proofs::Walks::walks))]
     pub(crate) fn has_reactance(&self, number: u32) -> bool
-        ensures { result ≡ has_reactance (elements_of (plain self.now)) number }
+        ensures { result ≡ has_reactance (elements_of (adaptor_tree self.now)) number }
     {
         match self {
             Tree::Leaf { elem, kind, .. } => *elem == number && kind.is_reactance(),

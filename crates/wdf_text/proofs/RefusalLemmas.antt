@@ -5,7 +5,7 @@ use Rattle.std.proofs.lemmas.Bool.{cases_order, false≢true}
 use Rattle.wdf_text.specs.declared.quantity.Quantity.{Quantity}
 use Rattle.wdf_text.specs.declared.decimal_error.DecimalError.{DecimalError}
 use Rattle.wdf_text.specs.declared.decimal_error.DecimalError.TheVariants.{TooLong, BadByte, Empty, TooManyDigits}
-use Rattle.wdf_text.specs.Decimals.{Answers, HasNoStray, IsDecimal, IsFirstStray, IsValueOf, Refuses}
+use Rattle.wdf_text.specs.Decimals.{Answers, HasNoStray, IsDecimal, IsFirstStray, IsValueOf, RefusesDecimal}
 use Rattle.wdf_text.proofs.ValueLemmas.{one_value}
 
 -- a first byte that stands where it may not is one
@@ -23,7 +23,7 @@ first_stray text a b s t =
 no_stray : (text : List ℕ) (a : ℕ) → IsFirstStray text a → HasNoStray text → ⊥
 no_stray text a s none = false≢true (sym (none a s.within) ∙ s.stray)
 
-one_refusal : (text : List ℕ) (d e : DecimalError) → Refuses text d → Refuses text e → d ≡ e
+one_refusal : (text : List ℕ) (d e : DecimalError) → RefusesDecimal text d → RefusesDecimal text e → d ≡ e
 one_refusal text TooLong TooLong h g = refl
 one_refusal text TooLong (BadByte b) h g = absurd (omega (arith, g.0))
 one_refusal text TooLong Empty h g = absurd (omega (arith, g.0))
@@ -42,16 +42,16 @@ one_refusal text TooManyDigits Empty h g = absurd (false≢true (sym g.2 ∙ h.2
 one_refusal text TooManyDigits TooManyDigits h g = refl
 
 -- what is read is not refused
-not_refused : (text : List ℕ) (e : DecimalError) → IsDecimal text → Refuses text e → ⊥
+not_refused : (text : List ℕ) (e : DecimalError) → IsDecimal text → RefusesDecimal text e → ⊥
 not_refused text TooLong h g = absurd (omega (arith, h.0))
 not_refused text (BadByte b) h g = no_stray text b g.1 h.1
 not_refused text Empty h g = false≢true (sym g.2 ∙ h.2)
 not_refused text TooManyDigits h g = absurd (omega (arith, h.3, g.3))
 
 -- each refusal comes exactly where its cause is there
-pub exactly : (text : List ℕ) (r : Result Quantity DecimalError) → Answers text r → (e : DecimalError) → (r ≡ Err e) ↔ Refuses text e
+pub exactly : (text : List ℕ) (r : Result Quantity DecimalError) → Answers text r → (e : DecimalError) → (r ≡ Err e) ↔ RefusesDecimal text e
 exactly text (Ok q) a e = (λ h. absurd (cc), λ g. absurd (not_refused text e a.0 g))
-exactly text (Err d) a e = (λ h. let same : d ≡ e = cc in subst (Refuses text) same a, λ g. ap (λ (x : DecimalError). Err x) (one_refusal text d e a g))
+exactly text (Err d) a e = (λ h. let same : d ≡ e = cc in subst (RefusesDecimal text) same a, λ g. ap (λ (x : DecimalError). Err x) (one_refusal text d e a g))
 
 pub accepted : (text : List ℕ) (r : Result Quantity DecimalError) → Answers text r → IsOk r ↔ IsDecimal text
 accepted text (Ok q) a = (λ h. a.0, λ g. refl)

@@ -52,11 +52,11 @@ HasNoDigit text = (length text ≤ 40) × HasNoStray text × (has_digit text ≡
 abbrev pub HasTooManyDigits : List ℕ → Type 0
 HasTooManyDigits text = (length text ≤ 40) × HasNoStray text × (has_digit text ≡ true) × (9 < significant_digits text)
 
-abbrev pub Refuses : List ℕ → DecimalError → Type 0
-Refuses text TooLong = IsTooLong text
-Refuses text (BadByte at) = HasBadByte text at
-Refuses text Empty = HasNoDigit text
-Refuses text TooManyDigits = HasTooManyDigits text
+abbrev pub RefusesDecimal : List ℕ → DecimalError → Type 0
+RefusesDecimal text TooLong = IsTooLong text
+RefusesDecimal text (BadByte at) = HasBadByte text at
+RefusesDecimal text Empty = HasNoDigit text
+RefusesDecimal text TooManyDigits = HasTooManyDigits text
 
 -- ---- what is read
 
@@ -74,4 +74,4 @@ pub record IsValueOf (text : List ℕ) (q : Quantity) : Type 0 where
 -- the answer to a text
 abbrev pub Answers : List ℕ → Result Quantity DecimalError → Type 0
 Answers text (Ok q) = IsDecimal text × IsValueOf text q
-Answers text (Err e) = Refuses text e
+Answers text (Err e) = RefusesDecimal text e

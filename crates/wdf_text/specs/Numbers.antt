@@ -13,7 +13,7 @@ abbrev pub number_of : List ℕ → ℕ
 number_of bytes = number_from_digits 10 (digits_of_bytes bytes)
 
 -- 1 to 20 digits, whose number fits 64 bits; zeros may stand in front
-pub record IsWhole (text : List ℕ) : Type 0 where
+pub record IsWholeNumber (text : List ℕ) : Type 0 where
   pub some : 1 ≤ length text
   pub few : length text ≤ 20
   pub digits : IsTrue (list_all is_ascii_digit text)

@@ -1,13 +1,13 @@
 //! Whole numbers in decimal digits.
 
 ghost use Rattle.std.specs.Prelude.{◌≡◌, ◌↔◌, IfSome, IsSome};
-ghost use Rattle.wdf_text.specs.Numbers.{IsWhole, number_of};
+ghost use Rattle.wdf_text.specs.Numbers.{IsWholeNumber, number_of};
 
 /// The number that 1 to 20 decimal digits write. Zeros may stand in front.
 ///
 /// None where the text is anything else, or where its number does not fit 64 bits.
 pub fn whole(text: &[u8]) -> Option<u64>
-    ensures read { IsSome result ↔ IsWhole text.now }
+    ensures read { IsSome result ↔ IsWholeNumber text.now }
     ensures value { IfSome result (λ n. n ≡ number_of text.now) }
 {
     if text.is_empty() || text.len() > 20 {

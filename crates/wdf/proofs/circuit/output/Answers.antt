@@ -21,7 +21,7 @@ returns-clause-value c =
     let shifted = simp to_z-of_z at c.quotient.ensures in
     let top = c.most.ensures.value in
     simp to_z-of_z (limited ∙ (λ i. int_max (pos 0 -ℤ top i -ℤ pos 1) (int_min (top i) (shifted i)))
-    ∙ ap (λ (z : ℤ). int_max z (int_min (pos (2 ^ (c.args.bits - 1)) -ℤ pos 1) (trunc c.args.wave (2 ^ c.args.down)))) (lowest (2 ^ (c.args.bits - 1))))
+    ∙ ap (λ (z : ℤ). int_max z (int_min (pos (2 ^ (c.args.bits - 1)) -ℤ pos 1) (trunc c.args.wave (2 ^ c.args.down_shift)))) (lowest (2 ^ (c.args.bits - 1))))
 
 pub returns-clause-range : goal.returns-clause-range
 returns-clause-range c = record {

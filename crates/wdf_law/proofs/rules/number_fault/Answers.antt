@@ -3,7 +3,7 @@ use Rattle.std.proofs.Common.{◌≡◌, ◌+◌, ◌++◌, length, sym, ◌∙�
 use Rattle.std.specs.Option.{option_map}
 use Rattle.wdf_law.specs.declared.net_error.NetError.TheVariants.{MissingElement}
 use Rattle.std.specs.List.{find, range_with_len}
-use Rattle.wdf_law.specs.Trees.{plain}
+use Rattle.wdf_law.specs.Trees.{adaptor_tree}
 use Rattle.wdf_law.specs.Network.{numbers_of}
 use Rattle.wdf_law.specs.Marks.{marked}
 use Rattle.wdf_law.proofs.Marking.{no_marks}
@@ -12,34 +12,34 @@ use Rattle.wdf_law.proofs.rules.number_fault.Goals as goal
 
 pub returns-in-Some-double : goal.returns-in-Some-double
 returns-in-Some-double c =
-    let xs = numbers_of (plain c.args.left.now) ++ numbers_of (plain c.args.right.now) in
+    let xs = numbers_of (adaptor_tree c.args.left.now) ++ numbers_of (adaptor_tree c.args.right.now) in
     sym (number_fault-double xs c.in-Some-double.elem (sym c.large.ensures ∙ c.in_default.is) (sym c.double.ensures.first ∙ c.in-Some-double.is))
 
 pub leaf_count-requires : goal.leaf_count-requires
 leaf_count-requires c =
-    let all = counted_leaves (plain c.args.left.now) (plain c.args.right.now) (sym c.large.ensures ∙ c.in_default.is) (sym c.double.ensures.first ∙ c.in_default-double.is) in
+    let all = counted_leaves (adaptor_tree c.args.left.now) (adaptor_tree c.args.right.now) (sym c.large.ensures ∙ c.in_default.is) (sym c.double.ensures.first ∙ c.in_default-double.is) in
     omega arith
 
 pub leaf_count-requires-2 : goal.leaf_count-requires-2
 leaf_count-requires-2 c =
-    let all = counted_leaves (plain c.args.left.now) (plain c.args.right.now) (sym c.large.ensures ∙ c.in_default.is) (sym c.double.ensures.first ∙ c.in_default-double.is) in
+    let all = counted_leaves (adaptor_tree c.args.left.now) (adaptor_tree c.args.right.now) (sym c.large.ensures ∙ c.in_default.is) (sym c.double.ensures.first ∙ c.in_default-double.is) in
     omega arith
 
 pub overflow_add-count : goal.overflow_add-count
 overflow_add-count c =
-    let all = counted_leaves (plain c.args.left.now) (plain c.args.right.now) (sym c.large.ensures ∙ c.in_default.is) (sym c.double.ensures.first ∙ c.in_default-double.is) in
+    let all = counted_leaves (adaptor_tree c.args.left.now) (adaptor_tree c.args.right.now) (sym c.large.ensures ∙ c.in_default.is) (sym c.double.ensures.first ∙ c.in_default-double.is) in
     omega arith
 
 pub missing-requires : goal.missing-requires
 missing-requires c =
-    let all = counted_leaves (plain c.args.left.now) (plain c.args.right.now) (sym c.large.ensures ∙ c.in_default.is) (sym c.double.ensures.first ∙ c.in_default-double.is) in
+    let all = counted_leaves (adaptor_tree c.args.left.now) (adaptor_tree c.args.right.now) (sym c.large.ensures ∙ c.in_default.is) (sym c.double.ensures.first ∙ c.in_default-double.is) in
     omega arith
 
 pub returns-in-Some-missing : goal.returns-in-Some-missing
 returns-in-Some-missing c =
-    let xs = numbers_of (plain c.args.left.now) ++ numbers_of (plain c.args.right.now) in
+    let xs = numbers_of (adaptor_tree c.args.left.now) ++ numbers_of (adaptor_tree c.args.right.now) in
     let n = c.leaf_count.result + c.leaf_count-2.result in
-    let count : n ≡ length xs = omega (arith, length_numbers (plain c.args.left.now) (plain c.args.right.now)) in
+    let count : n ≡ length xs = omega (arith, length_numbers (adaptor_tree c.args.left.now) (adaptor_tree c.args.right.now)) in
     let marks : c.double.new.marks ≡ marked no_marks xs = rw c.in_default-double.is at c.double.ensures.marks in
     let found : c.missing.result ≡ find (λ (i : ℕ). not (slice_index_or (marked no_marks xs) i false)) (range_with_len 0 n) =
     c.missing.ensures ∙ ap (λ (ms : List Bool). find (λ (i : ℕ). not (slice_index_or ms i false)) (range_with_len 0 n)) marks in
@@ -48,9 +48,9 @@ returns-in-Some-missing c =
 
 pub returns-in-None : goal.returns-in-None
 returns-in-None c =
-    let xs = numbers_of (plain c.args.left.now) ++ numbers_of (plain c.args.right.now) in
+    let xs = numbers_of (adaptor_tree c.args.left.now) ++ numbers_of (adaptor_tree c.args.right.now) in
     let n = c.leaf_count.result + c.leaf_count-2.result in
-    let count : n ≡ length xs = omega (arith, length_numbers (plain c.args.left.now) (plain c.args.right.now)) in
+    let count : n ≡ length xs = omega (arith, length_numbers (adaptor_tree c.args.left.now) (adaptor_tree c.args.right.now)) in
     let marks : c.double.new.marks ≡ marked no_marks xs = rw c.in_default-double.is at c.double.ensures.marks in
     let found : c.missing.result ≡ find (λ (i : ℕ). not (slice_index_or (marked no_marks xs) i false)) (range_with_len 0 n) =
     c.missing.ensures ∙ ap (λ (ms : List Bool). find (λ (i : ℕ). not (slice_index_or ms i false)) (range_with_len 0 n)) marks in
