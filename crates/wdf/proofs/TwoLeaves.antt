@@ -2,7 +2,7 @@
 use Rattle.std.proofs.Common.{◌≡◌, ℕ, ◌+◌, ◌-◌, ◌*◌, ◌^◌, ◌≤◌, List, [], ◌∷◌, map, refl, sym, ap, ◌∙◌, arith}
 use Rattle.std.specs.Prelude.{ℤ, pos, ◌*ℤ◌}
 use borrow.Author.Differences.{ints}
-use Rattle.wdf_algebra.specs.RootValue.{root_value}
+use Rattle.wdf_algebra.specs.JunctionValues.{root_value}
 use Rattle.wdf_algebra.specs.Truncation.{trunc}
 use Rattle.wdf_algebra.proofs.RootJunction.{root_voltage, root_currents, root_second}
 use Rattle.wdf_law.specs.Junction.{IsRoot}

@@ -2,17 +2,11 @@
 -- V1 = V2 = q·d + B and J1 + J2 = g·(q·d - B). Here g = g1 + g2, q·g1 = m·g and q·g2 = n·g.
 use Rattle.std.proofs.Common.{◌≡◌, ℕ, ◌+◌, ◌*◌, ◌<◌, [], ◌∷◌, refl, ap, ◌∙◌, arith}
 use lib.IntN.{ℤ, pos, ◌+ℤ◌, ◌-ℤ◌, ◌*ℤ◌}
+use Rattle.wdf_algebra.specs.JunctionValues.{parallel_value, parallel_part}
 use Rattle.wdf_algebra.proofs.RingLaws.{linear}
 use Rattle.wdf_algebra.proofs.Cancelling.{cancel}
 use Rattle.wdf_algebra.proofs.Polynomials.{con, var, ◌⊕◌, ◌⊖◌, ◌⊗◌, ring}
 use Rattle.wdf_algebra.proofs.LinearCombinations.{linear_combination}
-
--- the value to the junction's own port, and to the part whose wave is u
-abbrev pub parallel_value : (m n : ℕ) (u1 u2 : ℤ) → ℤ
-parallel_value m n u1 u2 = pos m *ℤ u1 +ℤ pos n *ℤ u2
-
-abbrev pub parallel_part : (q m n : ℕ) (u1 u2 d u : ℤ) → ℤ
-parallel_part q m n u1 u2 d u = pos q *ℤ d +ℤ parallel_value m n u1 u2 -ℤ pos q *ℤ u
 
 -- both parts have the voltage q·d + B
 pub parallel_voltage : (q m n : ℕ) (u1 u2 d u : ℤ) → pos q *ℤ u +ℤ parallel_part q m n u1 u2 d u ≡ pos q *ℤ d +ℤ parallel_value m n u1 u2

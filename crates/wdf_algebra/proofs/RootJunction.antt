@@ -2,7 +2,7 @@
 -- two ports, V1 = V2 and J1 + J2 = 0. Here m + n = q, q·g1 = m·(g1 + g2) and q·g2 = n·(g1 + g2).
 use Rattle.std.proofs.Common.{◌≡◌, ℕ, ◌+◌, ◌*◌, ◌<◌, [], ◌∷◌, refl, ap}
 use lib.IntN.{ℤ, pos, ◌+ℤ◌, ◌-ℤ◌, ◌*ℤ◌}
-use Rattle.wdf_algebra.specs.RootValue.{root_value}
+use Rattle.wdf_algebra.specs.JunctionValues.{root_value}
 use Rattle.wdf_algebra.proofs.Cancelling.{cancel}
 use Rattle.wdf_algebra.proofs.Polynomials.{con, var, ◌⊕◌, ◌⊖◌, ◌⊗◌, ring}
 use Rattle.wdf_algebra.proofs.LinearCombinations.{linear_combination}

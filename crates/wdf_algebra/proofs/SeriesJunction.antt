@@ -2,16 +2,10 @@
 -- g1·(B1 - q·u1) = g2·(B2 - q·u2) = J and V = V1 + V2. Here q·g = m·g1, q·g = n·g2 and m + n = q.
 use Rattle.std.proofs.Common.{◌≡◌, ℕ, ◌+◌, ◌*◌, ◌<◌, [], ◌∷◌, refl, ap, arith}
 use lib.IntN.{ℤ, pos, ◌+ℤ◌, ◌-ℤ◌, ◌*ℤ◌}
+use Rattle.wdf_algebra.specs.JunctionValues.{series_value, series_part}
 use Rattle.wdf_algebra.proofs.Cancelling.{cancel}
 use Rattle.wdf_algebra.proofs.Polynomials.{con, var, ◌⊕◌, ◌⊖◌, ◌⊗◌}
 use Rattle.wdf_algebra.proofs.LinearCombinations.{linear_combination}
-
--- the value to the junction's own port, and to the part whose wave is u and whose multiplier is m
-abbrev pub series_value : (q : ℕ) (u1 u2 : ℤ) → ℤ
-series_value q u1 u2 = pos q *ℤ (u1 +ℤ u2)
-
-abbrev pub series_part : (q m : ℕ) (u1 u2 d u : ℤ) → ℤ
-series_part q m u1 u2 d u = pos q *ℤ u +ℤ pos m *ℤ (d -ℤ (u1 +ℤ u2))
 
 -- the values meet the equation of a part's current
 pub series_current : (q m g1 g : ℕ) (u1 u2 d u : ℤ) → q * g ≡ m * g1

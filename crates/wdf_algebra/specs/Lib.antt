@@ -1,3 +1,3 @@
-pub mod RootValue
+pub mod JunctionValues
 pub mod Squares
 pub mod Truncation

@@ -11,9 +11,9 @@ use Rattle.wdf_law.specs.declared.kind.Kind.TheVariants.{Res, Cap, Ind, Src}
 use Rattle.wdf_law.specs.Trees.{AdaptorTree, leaf, series, parallel}
 use Rattle.wdf_law.specs.Network.{Network, unit_of}
 use Rattle.wdf_law.specs.Elements.{signed}
-use Rattle.wdf_law.specs.Conductance.{conductance, series_first, series_second, parallel_first, parallel_second}
+use Rattle.wdf_law.specs.Conductance.{conductance, series_first, series_second, parallel_first, parallel_second, left_factor, right_factor}
 use Rattle.wdf_law.specs.Step.{Waves, ends, forks, up_wave, down_wave, Follows, Frame, IsStep}
-use Rattle.wdf_law.specs.Energy.{if_reactance, stored_in, incident_in, absorbed_in, left_factor, right_factor, incident, absorbed}
+use Rattle.wdf_law.specs.Energy.{if_reactance, stored_in, incident_in, absorbed_in, incident, absorbed}
 use Rattle.wdf_law.specs.Solved.{reflected}
 use Rattle.wdf_law.specs.Laws.{IsExact, AreExact, IsLossless}
 use Rattle.wdf_law.proofs.ElementLemmas.{reflects}

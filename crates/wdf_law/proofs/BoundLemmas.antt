@@ -3,16 +3,14 @@ use Rattle.std.proofs.Common.{◌≡◌, ℕ, ◌+◌, ◌-◌, ◌*◌, ◌<◌
 use Rattle.std.proofs.Math.Nat.{mul-le-mul_left}
 use lib.IntN.{ℤ, pos}
 use Rattle.wdf_algebra.specs.Squares.{square}
-use Rattle.wdf_algebra.specs.RootValue.{root_value}
+use Rattle.wdf_algebra.specs.JunctionValues.{series_value, series_part, parallel_value, parallel_part, root_value}
 use Rattle.wdf_algebra.specs.Truncation.{trunc}
 use Rattle.wdf_algebra.proofs.Truncations.{trunc-loses}
-use Rattle.wdf_algebra.proofs.ParallelJunction.{parallel_value, parallel_part}
-use Rattle.wdf_algebra.proofs.SeriesJunction.{series_value, series_part}
 use Rattle.wdf_law.specs.Trees.{AdaptorTree, leaf, series, parallel}
 use Rattle.wdf_law.specs.Network.{Network, unit_of}
-use Rattle.wdf_law.specs.Conductance.{conductance, series_first, series_second, parallel_first, parallel_second}
+use Rattle.wdf_law.specs.Conductance.{conductance, series_first, series_second, parallel_first, parallel_second, left_factor, right_factor}
 use Rattle.wdf_law.specs.Step.{up_wave, down_wave, Frame, IsStep}
-use Rattle.wdf_law.specs.Energy.{stored_in, incident_in, left_factor, right_factor, incident}
+use Rattle.wdf_law.specs.Energy.{stored_in, incident_in, incident}
 use Rattle.wdf_law.specs.Solved.{ups, waves, solved}
 use Rattle.wdf_law.specs.Laws.{AreBounded, IsFrameBounded}
 use Rattle.wdf_law.proofs.ConductanceLemmas.{IsSound, HasSoundTrees, conductance-pos, series_first-pos, series_second-pos, parallel_first-pos, parallel_second-pos, left_factor-pos, right_factor-pos, series_law, parallel_law, root_law, whole_of}

@@ -6,8 +6,7 @@ use Rattle.std.proofs.lemmas.List.{map-append}
 use Rattle.std.proofs.lemmas.List.Elements.{All-nil, All-cons, All-head, All-tail, All-same}
 use Rattle.wdf_law.specs.Trees.{AdaptorTree, leaf, series, parallel}
 use Rattle.wdf_law.specs.Network.{Network, IsNetwork, Adaptor, unit_of, adaptors_of, multipliers_of}
-use Rattle.wdf_law.specs.Conductance.{clearing, conductance, series_first, series_second, parallel_first, parallel_second, root_first, root_second}
-use Rattle.wdf_law.specs.Energy.{left_factor, right_factor}
+use Rattle.wdf_law.specs.Conductance.{clearing, conductance, series_first, series_second, parallel_first, parallel_second, root_first, root_second, left_factor, right_factor}
 use Rattle.wdf_law.specs.Laws.{AreParallel, AreSeries, HaveConductances, HasConductances}
 
 -- every multiplier of a tree is in 1..=q-1

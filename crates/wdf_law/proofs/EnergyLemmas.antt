@@ -3,11 +3,12 @@ use Rattle.std.proofs.Common.{◌≡◌, ℕ, ◌+◌, ◌≤◌, List, [], ◌�
 use lib.IntN.{ℤ}
 use Rattle.wdf_law.specs.Network.{Network, IsNetwork}
 use Rattle.wdf_law.specs.Step.{Frame, IsStep, after}
-use Rattle.wdf_law.specs.Run.{states, at_rest, IsRun}
-use Rattle.wdf_law.specs.Energy.{stored, incident, absorbed, all_incident, all_absorbed, at_end}
+use Rattle.wdf_law.specs.Run.{states, at_rest, IsRun, at_end}
+use Rattle.wdf_law.specs.Energy.{stored, incident, absorbed, all_incident, all_absorbed}
 use Rattle.wdf_law.specs.Laws.{KeepsEnergy}
 use Rattle.wdf_law.proofs.ConductanceLemmas.{sound_trees}
 use Rattle.wdf_law.proofs.BalanceLemmas.{kept, step_balance, exact_step_balance}
+use Rattle.wdf_law.proofs.LosslessLemmas.{equal_is_lossless}
 use Rattle.wdf_law.proofs.StateLemmas.{stored-after, stored-at_rest}
 
 pub step_keeps : (n : Network) → IsNetwork n → (zs : List ℤ) (e : ℕ → ℤ) (s : Frame) → IsStep n (states n zs) e s
@@ -34,6 +35,7 @@ keeps_energy n rules = record {
       let same : stored n (after n s) ≡ kept n s = stored-after n (states n zs) e s rules step in
       let balance : kept n s + absorbed n s ≡ stored n zs + incident n e = exact_step_balance n (states n zs) e s (sound_trees n rules).unit step whole in
       ap (λ (k : ℕ). k + absorbed n s) same ∙ balance;
+  only_lossless = equal_is_lossless n rules;
   run = λ es ss run.
       let none : stored n (at_rest n) ≡ 0 = stored-at_rest n in
       let all = run_keeps n rules (at_rest n) es ss run in

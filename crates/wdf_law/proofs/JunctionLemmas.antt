@@ -1,9 +1,9 @@
 -- The junctions of a tree, solved: their equations have these values and no others.
 use Rattle.std.proofs.Common.{◌≡◌, ℕ, ◌+◌, ◌*◌, ◌<◌, ap, sym, ◌∙◌, arith}
 use lib.IntN.{ℤ}
-use Rattle.wdf_algebra.specs.RootValue.{root_value}
-use Rattle.wdf_algebra.proofs.ParallelJunction.{parallel_value, parallel_part, parallel_voltage, parallel_currents, parallel_only, parallel_part_only}
-use Rattle.wdf_algebra.proofs.SeriesJunction.{series_value, series_part, series_current, series_voltages, series_only, series_part_only}
+use Rattle.wdf_algebra.specs.JunctionValues.{series_value, series_part, parallel_value, parallel_part, root_value}
+use Rattle.wdf_algebra.proofs.ParallelJunction.{parallel_voltage, parallel_currents, parallel_only, parallel_part_only}
+use Rattle.wdf_algebra.proofs.SeriesJunction.{series_current, series_voltages, series_only, series_part_only}
 use Rattle.wdf_algebra.proofs.RootJunction.{root_voltage, root_currents, root_first, root_second}
 use Rattle.wdf_law.specs.Junction.{IsParallel, IsSeries, IsRoot}
 use Rattle.wdf_law.specs.Laws.{AreParallel, AreSeries}

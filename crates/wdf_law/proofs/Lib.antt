@@ -7,6 +7,7 @@ pub mod ElementLemmas
 pub mod EnergyLemmas
 pub mod JunctionLemmas
 pub mod Losses
+pub mod LosslessLemmas
 pub mod Marking
 pub mod NumberFaults
 pub mod Pigeonhole

@@ -13,10 +13,10 @@ use Rattle.wdf_law.specs.declared.kind.Kind.{Kind}
 use Rattle.wdf_law.specs.declared.kind.Kind.TheVariants.{Res, Cap, Ind, Src}
 use Rattle.wdf_law.specs.Trees.{AdaptorTree, leaf, series, parallel, LeafElement, elements_of}
 use Rattle.wdf_law.specs.Network.{Network, IsNetwork, unit_of, elements, numbers, numbers_of, times_in, is_reactance, has_reactance, reactances}
-use Rattle.wdf_law.specs.Conductance.{conductance, series_first, series_second, parallel_first, parallel_second}
+use Rattle.wdf_law.specs.Conductance.{conductance, series_first, series_second, parallel_first, parallel_second, left_factor, right_factor}
 use Rattle.wdf_law.specs.Step.{Waves, ends, forks, Follows, Frame, IsStep, has_leaf, sent, sent_in, after}
 use Rattle.wdf_law.specs.Run.{entry, states, at_rest}
-use Rattle.wdf_law.specs.Energy.{if_reactance, stored_in, left_factor, right_factor, stored}
+use Rattle.wdf_law.specs.Energy.{if_reactance, stored_in, stored}
 use Rattle.wdf_law.proofs.BalanceLemmas.{kept_in, kept}
 
 -- ---- lists of elements

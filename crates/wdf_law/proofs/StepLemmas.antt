@@ -1,21 +1,19 @@
 -- From every state and for every input there is one step, the solved one.
 use Rattle.std.proofs.Common.{◌≡◌, ℕ, ◌-◌, ◌<◌, refl, ap, sym, ◌∙◌, subst}
 use lib.IntN.{ℤ}
-use Rattle.wdf_algebra.specs.RootValue.{root_value}
+use Rattle.wdf_algebra.specs.JunctionValues.{series_value, series_part, parallel_value, parallel_part, root_value}
 use Rattle.wdf_algebra.specs.Truncation.{trunc}
-use Rattle.wdf_algebra.proofs.ParallelJunction.{parallel_value, parallel_part}
-use Rattle.wdf_algebra.proofs.SeriesJunction.{series_value, series_part}
 use Rattle.wdf_law.specs.Trees.{AdaptorTree, leaf, series, parallel}
 use Rattle.wdf_law.specs.Network.{Network, IsNetwork, unit_of}
-use Rattle.wdf_law.specs.Conductance.{conductance, series_first, series_second, parallel_first, parallel_second}
+use Rattle.wdf_law.specs.Conductance.{conductance, series_first, series_second, parallel_first, parallel_second, left_factor, right_factor}
 use Rattle.wdf_law.specs.Junction.{IsParallel, IsSeries, IsRoot}
 use Rattle.wdf_law.specs.Step.{Waves, ends, forks, up_wave, down_wave, Follows, Frame, IsStep}
 use Rattle.wdf_law.specs.Run.{states}
-use Rattle.wdf_law.specs.Energy.{left_factor, right_factor}
 use Rattle.wdf_law.specs.Solved.{ups, waves, solved}
 use Rattle.wdf_law.specs.Laws.{HasOneStep}
 use Rattle.wdf_law.proofs.ConductanceLemmas.{IsSound, HasSoundTrees, sound_trees, conductance-pos, series_first-pos, series_second-pos, parallel_first-pos, parallel_second-pos, left_factor-pos, right_factor-pos, series_law, parallel_law, root_law, whole_of}
 use Rattle.wdf_law.proofs.ElementLemmas.{reflects, reflected-meets}
+use Rattle.wdf_law.proofs.StateLemmas.{states-after}
 use Rattle.wdf_law.proofs.JunctionLemmas.{parallel_solved, parallel_alone, series_solved, series_alone, root_solved, root_alone_first, root_alone_second}
 
 pub up_wave-waves : (q : ℕ) (x e : ℕ → ℤ) (t : AdaptorTree) (d : ℤ) → up_wave (waves q x e t d) ≡ ups q x e t
@@ -166,4 +164,6 @@ has_one_step n rules =
     record {
       some = λ zs e. (solved n (states n zs) e, solved-steps n s (states n zs) e);
       only = λ zs e f t h k. step-alone n s (states n zs) e f h ∙ sym (step-alone n s (states n zs) e t k);
+      values = λ zs e. solved-steps n s (states n zs) e;
+      left_behind = λ f i h. states-after n f rules i h;
     }

@@ -4,10 +4,10 @@ use lib.IntN.{ℤ}
 use Rattle.wdf_algebra.specs.Squares.{square}
 use Rattle.wdf_law.specs.Trees.{AdaptorTree, leaf, series, parallel}
 use Rattle.wdf_law.specs.Network.{Network, IsNetwork, unit_of}
-use Rattle.wdf_law.specs.Conductance.{conductance, series_first, series_second, parallel_first, parallel_second}
+use Rattle.wdf_law.specs.Conductance.{conductance, series_first, series_second, parallel_first, parallel_second, left_factor, right_factor}
 use Rattle.wdf_law.specs.Step.{Waves, ends, forks, Frame, after}
 use Rattle.wdf_law.specs.Run.{states, at_rest, IsRun}
-use Rattle.wdf_law.specs.Energy.{if_absorbing, absorbed_in, taken_in, left_factor, right_factor, stored, incident, all_absorbed, all_taken}
+use Rattle.wdf_law.specs.Energy.{if_absorbing, absorbed_in, taken_in, stored, incident, all_absorbed, all_taken}
 use Rattle.wdf_law.specs.Laws.{IsRunBounded, BoundsEveryWave}
 use Rattle.wdf_law.proofs.ConductanceLemmas.{sound_trees}
 use Rattle.wdf_law.proofs.StateLemmas.{stored-at_rest}

@@ -6,6 +6,7 @@
 -- The unit is the network's own: only ratios of conductances count.
 use Rattle.std.specs.Prelude.{ℕ, ◌*◌, ◌-◌}
 use Rattle.wdf_law.specs.Trees.{AdaptorTree, leaf, series, parallel}
+use Rattle.wdf_law.specs.Network.{Network, unit_of}
 
 -- the clearing number of a tree, which makes the conductances of its ports whole
 abbrev pub clearing : ℕ → AdaptorTree → ℕ
@@ -30,9 +31,16 @@ parallel_first q f m r = f * m * clearing q r
 abbrev pub parallel_second : ℕ → ℕ → ℕ → AdaptorTree → ℕ
 parallel_second q f m l = f * (q - m) * clearing q l
 
--- the factors of the left and of the right tree at the root
+-- the factors of the two parts at the root
 abbrev pub root_first : ℕ → ℕ → AdaptorTree → ℕ
 root_first q m right = m * clearing q right
 
 abbrev pub root_second : ℕ → ℕ → AdaptorTree → ℕ
 root_second q m left = (q - m) * clearing q left
+
+-- and so of the two trees of a network
+abbrev pub left_factor : Network → ℕ
+left_factor n = root_first (unit_of n) n.m n.right
+
+abbrev pub right_factor : Network → ℕ
+right_factor n = root_second (unit_of n) n.m n.left

@@ -6,8 +6,8 @@ use Rattle.wdf_law.specs.declared.kind.Kind.{Kind}
 use Rattle.wdf_law.specs.declared.kind.Kind.TheVariants.{Res, Cap, Ind, Src}
 use Rattle.wdf_law.specs.Trees.{AdaptorTree, leaf, series, parallel}
 use Rattle.wdf_law.specs.Network.{Network, unit_of}
-use Rattle.wdf_law.specs.Conductance.{conductance, series_first, series_second, parallel_first, parallel_second, root_first, root_second}
-use Rattle.wdf_law.specs.Step.{Waves, ends, forks, Frame, after}
+use Rattle.wdf_law.specs.Conductance.{conductance, series_first, series_second, parallel_first, parallel_second, left_factor, right_factor}
+use Rattle.wdf_law.specs.Step.{Waves, ends, forks, Frame}
 use Rattle.wdf_law.specs.Run.{states}
 
 -- a reactance's share, a source's share, and that of a resistor or a source
@@ -50,13 +50,6 @@ absorbed_in q f (series m l r) (forks u d b1 b2 b wl wr) = absorbed_in q (series
 absorbed_in q f (parallel m l r) (ends u d) = 0
 absorbed_in q f (parallel m l r) (forks u d b1 b2 b wl wr) = absorbed_in q (parallel_first q f m r) l wl + absorbed_in q (parallel_second q f m l) r wr
 
--- the factors of the two trees of a network
-abbrev pub left_factor : Network → ℕ
-left_factor n = root_first (unit_of n) n.m n.right
-
-abbrev pub right_factor : Network → ℕ
-right_factor n = root_second (unit_of n) n.m n.left
-
 -- the energy stored in the states zs, in netlist order
 abbrev pub stored : Network → List ℤ → ℕ
 stored n zs = stored_in (unit_of n) (states n zs) (left_factor n) n.left + stored_in (unit_of n) (states n zs) (right_factor n) n.right
@@ -76,11 +69,6 @@ all_incident n (e ∷ es) = incident n e + all_incident n es
 abbrev pub all_absorbed : Network → List Frame → ℕ
 all_absorbed n [] = 0
 all_absorbed n (s ∷ ss) = absorbed n s + all_absorbed n ss
-
--- the states at the end of a run from the states zs
-abbrev pub at_end : Network → List ℤ → List Frame → List ℤ
-at_end n zs [] = zs
-at_end n zs (s ∷ ss) = at_end n (after n s) ss
 
 -- g·d² at the resistor or source with the number j, 0 where there is none
 abbrev pub taken_in : ℕ → ℕ → ℕ → AdaptorTree → Waves → ℕ

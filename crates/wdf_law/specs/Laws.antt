@@ -1,13 +1,14 @@
 -- What the definitions of a network imply, for every network, every state and every input.
-use Rattle.std.specs.Prelude.{◌≡◌, ℕ, ◌+◌, ◌*◌, ◌<◌, ◌≤◌, ℤ, pos, ◌*ℤ◌, List, [], ◌∷◌}
+use Rattle.std.specs.Prelude.{◌≡◌, ℕ, ◌+◌, ◌*◌, ◌<◌, ◌≤◌, ℤ, pos, ◌*ℤ◌, true, List, [], ◌∷◌}
 use Rattle.wdf_algebra.specs.Squares.{square}
 use Rattle.wdf_algebra.specs.Truncation.{trunc}
 use Rattle.wdf_law.specs.Trees.{AdaptorTree, leaf, series, parallel}
-use Rattle.wdf_law.specs.Network.{Network, unit_of}
-use Rattle.wdf_law.specs.Conductance.{conductance, series_first, series_second, parallel_first, parallel_second}
-use Rattle.wdf_law.specs.Step.{Waves, ends, forks, Frame, IsStep, after}
-use Rattle.wdf_law.specs.Run.{states, at_rest, IsRun}
-use Rattle.wdf_law.specs.Energy.{left_factor, right_factor, stored, incident, absorbed, all_incident, all_absorbed, all_taken, at_end}
+use Rattle.wdf_law.specs.Network.{Network, unit_of, elements, has_reactance}
+use Rattle.wdf_law.specs.Conductance.{conductance, series_first, series_second, parallel_first, parallel_second, left_factor, right_factor}
+use Rattle.wdf_law.specs.Step.{Waves, ends, forks, Frame, IsStep, sent_in, after}
+use Rattle.wdf_law.specs.Solved.{solved}
+use Rattle.wdf_law.specs.Run.{states, at_rest, IsRun, at_end}
+use Rattle.wdf_law.specs.Energy.{stored, incident, absorbed, all_incident, all_absorbed, all_taken}
 
 -- ---- conductances
 
@@ -46,6 +47,10 @@ pub record HasConductances (n : Network) : Type 0 where
 pub record HasOneStep (n : Network) : Type 0 where
   pub some : (zs : List ℤ) (e : ℕ → ℤ) → (s : Frame) × IsStep n (states n zs) e s
   pub only : (zs : List ℤ) (e : ℕ → ℤ) (s t : Frame) → IsStep n (states n zs) e s → IsStep n (states n zs) e t → s ≡ t
+  -- so it is the one whose values the junctions' equations were solved for
+  pub values : (zs : List ℤ) (e : ℕ → ℤ) → IsStep n (states n zs) e (solved n (states n zs) e)
+  -- a reactance's state after a step is the wave that it was sent
+  pub left_behind : (s : Frame) (i : ℕ) → has_reactance (elements n) i ≡ true → states n (after n s) i ≡ sent_in n s i
 
 -- ---- energy
 
@@ -70,6 +75,9 @@ pub record KeepsEnergy (n : Network) : Type 0 where
   -- where nothing is lost, they are equal
   pub lossless : (zs : List ℤ) (e : ℕ → ℤ) (s : Frame) → IsStep n (states n zs) e s → IsLossless n s
       → stored n (after n s) + absorbed n s ≡ stored n zs + incident n e
+  -- and only there
+  pub only_lossless : (zs : List ℤ) (e : ℕ → ℤ) (s : Frame) → IsStep n (states n zs) e s
+      → stored n (after n s) + absorbed n s ≡ stored n zs + incident n e → IsLossless n s
   -- and so over a run from rest
   pub run : (es : List (ℕ → ℤ)) (ss : List Frame) → IsRun n (at_rest n) es ss
       → stored n (at_end n (at_rest n) ss) + all_absorbed n ss ≤ all_incident n es

@@ -23,3 +23,8 @@ IsRun n zs [] [] = Unit {0}
 IsRun n zs [] (s ∷ ss) = ⊥
 IsRun n zs (e ∷ es) [] = ⊥
 IsRun n zs (e ∷ es) (s ∷ ss) = IsStep n (states n zs) e s × IsRun n (after n s) es ss
+
+-- the states at the end of a run from the states zs
+abbrev pub at_end : Network → List ℤ → List Frame → List ℤ
+at_end n zs [] = zs
+at_end n zs (s ∷ ss) = at_end n (after n s) ss

@@ -1,9 +1,7 @@
 -- The step of a network, solved: the up waves from the leaves to the root, and then the waves down.
 use Rattle.std.specs.Prelude.{ℕ, ◌-◌, ℤ, pos, neg_ℤ, Bool}
-use Rattle.wdf_algebra.specs.RootValue.{root_value}
+use Rattle.wdf_algebra.specs.JunctionValues.{series_value, series_part, parallel_value, parallel_part, root_value}
 use Rattle.wdf_algebra.specs.Truncation.{trunc}
-use Rattle.wdf_algebra.proofs.ParallelJunction.{parallel_value, parallel_part}
-use Rattle.wdf_algebra.proofs.SeriesJunction.{series_value, series_part}
 use Rattle.wdf_law.specs.declared.kind.Kind.{Kind}
 use Rattle.wdf_law.specs.declared.kind.Kind.TheVariants.{Res, Cap, Ind, Src}
 use Rattle.wdf_law.specs.Trees.{AdaptorTree, leaf, series, parallel}

@@ -6,7 +6,7 @@ use Rattle.std.specs.List.{list_any}
 use Rattle.wdf_algebra.specs.Truncation.{trunc}
 use Rattle.wdf_law.specs.Trees.{AdaptorTree, leaf, series, parallel, LeafElement, elements_of}
 use Rattle.wdf_law.specs.Network.{Network, unit_of, reactances}
-use Rattle.wdf_law.specs.Conductance.{conductance, series_first, series_second, parallel_first, parallel_second, root_first, root_second}
+use Rattle.wdf_law.specs.Conductance.{conductance, series_first, series_second, parallel_first, parallel_second, left_factor, right_factor}
 use Rattle.wdf_law.specs.Junction.{IsParallel, IsSeries, IsRoot, Truncates}
 use Rattle.wdf_law.specs.Elements.{ObeysElementLaw}
 
@@ -51,11 +51,11 @@ pub record Frame : Type 0 where
 
 -- the step of a network from the states x with the inputs e, both by the element's number
 pub record IsStep (n : Network) (x e : ℕ → ℤ) (s : Frame) : Type 0 where
-  pub root : IsRoot (unit_of n) (conductance (unit_of n) (root_first (unit_of n) n.m n.right) n.left) (conductance (unit_of n) (root_second (unit_of n) n.m n.left) n.right) (up_wave s.left) (up_wave s.right) s.b1 s.b2
+  pub root : IsRoot (unit_of n) (conductance (unit_of n) (left_factor n) n.left) (conductance (unit_of n) (right_factor n) n.right) (up_wave s.left) (up_wave s.right) s.b1 s.b2
   pub to_left : down_wave s.left ≡ trunc s.b1 (unit_of n)
   pub to_right : down_wave s.right ≡ trunc s.b2 (unit_of n)
-  pub left : Follows (unit_of n) x e (root_first (unit_of n) n.m n.right) n.left s.left
-  pub right : Follows (unit_of n) x e (root_second (unit_of n) n.m n.left) n.right s.right
+  pub left : Follows (unit_of n) x e (left_factor n) n.left s.left
+  pub right : Follows (unit_of n) x e (right_factor n) n.right s.right
 
 -- the tree has a leaf with this number
 abbrev pub has_leaf : AdaptorTree → ℕ → Bool
