@@ -6,7 +6,7 @@ use Rattle.std.proofs.lemmas.List.{map-append, take_more, length-drop}
 use Rattle.std.proofs.lemmas.List.Elements.{filter-append}
 use Rattle.std.proofs.lemmas.Bool.{cond-true, cond-false, ltb-false, eqb-true}
 use Rattle.std.proofs.lemmas.Bool.Decides.{nat_tests}
-use Rattle.wdf_text.specs.declared.quantity.Quantity.{Quantity}
+use Rattle.wdf_text.specs.DecimalNumber.{DecimalNumber}
 use Rattle.wdf_text.specs.Decimals.{IsValueOf, digit_bytes, is_dot, places}
 use Rattle.wdf_text.specs.Numbers.{digits_of_bytes}
 use Rattle.wdf_text.specs.Significance.{IsSignificant, significant_count}
@@ -88,7 +88,7 @@ places_none text e = by (ltb (position_or_len is_dot text) (length text)) refl
         omega (arith, length-drop (position_or_len is_dot text + 1) text)
 
 -- the significant digits with the exponent that the dot gives are the value
-pub value_read : (text : List ℕ) (digits count trailing : ℕ) (q : Quantity) → IsSignificant (digits_in text) digits count trailing
+pub value_read : (text : List ℕ) (digits count trailing : ℕ) (q : DecimalNumber) → IsSignificant (digits_in text) digits count trailing
     → q.digits ≡ digits → (0 < digits → pos trailing ≡ q.exp +ℤ pos (places text)) → (digits ≡ 0 → q.exp ≡ pos 0) → IsValueOf text q
 value_read text digits count trailing q s same exp zero = by (eqb digits 0) refl
   where

@@ -2,7 +2,7 @@
 use Rattle.std.proofs.Common.{◌≡◌, ℕ, List, Result, Ok, Err, refl, sym, ap, ◌∙◌, subst, inl, inr, arith}
 use Rattle.std.specs.Prelude.{◌↔◌, IsOk, IfOk}
 use Rattle.std.proofs.lemmas.Bool.{cases_order, false≢true}
-use Rattle.wdf_text.specs.declared.quantity.Quantity.{Quantity}
+use Rattle.wdf_text.specs.DecimalNumber.{DecimalNumber, IsNormal}
 use Rattle.wdf_text.specs.declared.decimal_error.DecimalError.{DecimalError}
 use Rattle.wdf_text.specs.declared.decimal_error.DecimalError.TheVariants.{TooLong, BadByte, Empty, TooManyDigits}
 use Rattle.wdf_text.specs.Decimals.{Answers, HasNoStray, IsDecimal, IsFirstStray, IsValueOf, RefusesDecimal}
@@ -49,18 +49,18 @@ not_refused text Empty h g = false≢true (sym g.2 ∙ h.2)
 not_refused text TooManyDigits h g = absurd (omega (arith, h.3, g.3))
 
 -- each refusal comes exactly where its cause is there
-pub exactly : (text : List ℕ) (r : Result Quantity DecimalError) → Answers text r → (e : DecimalError) → (r ≡ Err e) ↔ RefusesDecimal text e
+pub exactly : (text : List ℕ) (r : Result DecimalNumber DecimalError) → Answers text r → (e : DecimalError) → (r ≡ Err e) ↔ RefusesDecimal text e
 exactly text (Ok q) a e = (λ h. absurd (cc), λ g. absurd (not_refused text e a.0 g))
 exactly text (Err d) a e = (λ h. let same : d ≡ e = cc in subst (RefusesDecimal text) same a, λ g. ap (λ (x : DecimalError). Err x) (one_refusal text d e a g))
 
-pub accepted : (text : List ℕ) (r : Result Quantity DecimalError) → Answers text r → IsOk r ↔ IsDecimal text
+pub accepted : (text : List ℕ) (r : Result DecimalNumber DecimalError) → Answers text r → IsOk r ↔ IsDecimal text
 accepted text (Ok q) a = (λ h. a.0, λ g. refl)
 accepted text (Err d) a = (λ h. absurd (false≢true h), λ g. absurd (not_refused text d g a))
 
-pub valued : (text : List ℕ) (r : Result Quantity DecimalError) → Answers text r → IfOk r (IsValueOf text)
+pub valued : (text : List ℕ) (r : Result DecimalNumber DecimalError) → Answers text r → IfOk r (IsValueOf text)
 valued text (Ok q) a = a.1
 valued text (Err d) a = tt
 
-pub only : (text : List ℕ) (r : Result Quantity DecimalError) → Answers text r → (p : Quantity) → IsValueOf text p → IfOk r (λ q. (p.digits ≡ q.digits) × (p.exp ≡ q.exp))
-only text (Ok q) a p v = one_value text p q v a.1
-only text (Err d) a p v = tt
+pub only : (text : List ℕ) (r : Result DecimalNumber DecimalError) → Answers text r → IfOk r IsNormal → (p : DecimalNumber) → IsNormal p → IsValueOf text p → IfOk r (λ q. p ≡ q)
+only text (Ok q) a normal p p_normal v = one_value text p q p_normal normal v a.1
+only text (Err d) a normal p p_normal v = tt

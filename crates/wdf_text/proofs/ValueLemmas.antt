@@ -5,7 +5,7 @@ use Rattle.std.proofs.lemmas.Int.{ints}
 use Rattle.std.proofs.lemmas.Bool.{cases_order, eqb-true}
 use Rattle.std.proofs.lemmas.Bool.Decides.{nat_tests}
 use Rattle.std.proofs.Math.Nat.{mul-div_cancel, one-le-pow}
-use Rattle.wdf_text.specs.declared.quantity.Quantity.{Quantity}
+use Rattle.wdf_text.specs.DecimalNumber.{DecimalNumber, IsNormal}
 use Rattle.wdf_text.specs.Decimals.{IsValueOf}
 use Rattle.wdf_text.proofs.SignificanceLemmas.{tens}
 
@@ -38,28 +38,29 @@ zero_digits : (d s : ℕ) → d * 10 ^ s ≡ 0 → d ≡ 0
 zero_digits d s none = cancel d 0 (10 ^ s) (one-le-pow s 10 (omega arith)) (none ∙ sym (zero-mul (10 ^ s)))
 
 -- a quantity of number 0 is 0 with exponent 0, so two of them are one
-pub one_value : (text : List ℕ) (p q : Quantity) → IsValueOf text p → IsValueOf text q → (p.digits ≡ q.digits) × (p.exp ≡ q.exp)
-one_value text p q v w = by (eqb (p.digits % 10) 0) (eqb (q.digits % 10) 0) refl refl
+pub one_value : (text : List ℕ) (p q : DecimalNumber) → IsNormal p → IsNormal q → IsValueOf text p → IsValueOf text q → p ≡ q
+one_value text p q p_normal q_normal v w = by (eqb (p.digits % 10) 0) (eqb (q.digits % 10) 0) refl refl
   where
     same : p.digits * 10 ^ v.scale ≡ q.digits * 10 ^ w.scale
     same = sym v.value ∙ w.value
 
-    by : (t u : Bool) → eqb (p.digits % 10) 0 ≡ t → eqb (q.digits % 10) 0 ≡ u → (p.digits ≡ q.digits) × (p.exp ≡ q.exp)
+    one : p.digits ≡ q.digits → p.exp ≡ q.exp → p ≡ q
+    one d e i = record { digits = d i; exp = e i }
+
+    by : (t u : Bool) → eqb (p.digits % 10) 0 ≡ t → eqb (q.digits % 10) 0 ≡ u → p ≡ q
     by true u h g =
-        let a = p.normal (eqb-true _ _ h) in
+        let a = p_normal (eqb-true _ _ h) in
         let none : q.digits ≡ 0 = zero_digits q.digits w.scale (sym same ∙ ap (λ (n : ℕ). n * 10 ^ v.scale) a.0 ∙ zero-mul (10 ^ v.scale)) in
-        let b = q.normal (ap (λ (n : ℕ). n % 10) none) in
-        (a.0 ∙ sym none, a.1 ∙ sym b.1)
+        let b = q_normal (ap (λ (n : ℕ). n % 10) none) in
+        one (a.0 ∙ sym none) (a.1 ∙ sym b.1)
     by false true h g =
-        let b = q.normal (eqb-true _ _ g) in
+        let b = q_normal (eqb-true _ _ g) in
         let none : p.digits ≡ 0 = zero_digits p.digits v.scale (same ∙ ap (λ (n : ℕ). n * 10 ^ w.scale) b.0 ∙ zero-mul (10 ^ w.scale)) in
-        let a = p.normal (ap (λ (n : ℕ). n % 10) none) in
-        (none ∙ sym b.0, a.1 ∙ sym b.1)
+        let a = p_normal (ap (λ (n : ℕ). n % 10) none) in
+        one (none ∙ sym b.0) (a.1 ∙ sym b.1)
     by false false h g =
         let p_last : 0 < p.digits % 10 = grind (arith, h, nat_tests) in
         let q_last : 0 < q.digits % 10 = grind (arith, g, nat_tests) in
         let scale : v.scale ≡ w.scale = one_scale p.digits q.digits v.scale w.scale same p_last q_last in
-        let place : pos v.scale ≡ pos w.scale = ap (λ (n : ℕ). pos n) scale in (
-          cancel p.digits q.digits (10 ^ v.scale) (one-le-pow v.scale 10 (omega arith)) (same ∙ ap (λ (n : ℕ). q.digits * 10 ^ n) (sym scale)),
-          omega (arith, ints, v.place, w.place),
-        )
+        let place : pos v.scale ≡ pos w.scale = ap (λ (n : ℕ). pos n) scale in
+        one (cancel p.digits q.digits (10 ^ v.scale) (one-le-pow v.scale 10 (omega arith)) (same ∙ ap (λ (n : ℕ). q.digits * 10 ^ n) (sym scale))) (omega (arith, ints, v.place, w.place))

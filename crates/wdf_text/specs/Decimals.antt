@@ -2,7 +2,7 @@
 use Rattle.std.specs.Prelude.{◌≡◌, ℕ, ◌*◌, ◌^◌, ◌<◌, ◌≤◌, pos, ◌+ℤ◌, Bool, true, false, not, ◌&&◌, ◌||◌, ◌==◌, List, length, take, filter, slice_index, Result, Ok, Err}
 use Rattle.std.specs.List.{after_first, list_any}
 use Rattle.std.specs.Char.{is_ascii_digit}
-use Rattle.wdf_text.specs.declared.quantity.Quantity.{Quantity}
+use Rattle.wdf_text.specs.DecimalNumber.{DecimalNumber}
 use Rattle.wdf_text.specs.declared.decimal_error.DecimalError.{DecimalError}
 use Rattle.wdf_text.specs.declared.decimal_error.DecimalError.TheVariants.{TooLong, BadByte, Empty, TooManyDigits}
 use Rattle.wdf_text.specs.Numbers.{digits_of_bytes, number_of}
@@ -66,12 +66,12 @@ IsDecimal text = (length text ≤ 40) × HasNoStray text × (has_digit text ≡ 
 
 -- q is the number that the text writes: with p digits behind the dot, exp + p is a whole number that is
 -- not negative, and digits · 10^(exp + p) is the number of all the digits
-pub record IsValueOf (text : List ℕ) (q : Quantity) : Type 0 where
+pub record IsValueOf (text : List ℕ) (q : DecimalNumber) : Type 0 where
   pub scale : ℕ
   pub place : pos scale ≡ q.exp +ℤ pos (places text)
   pub value : number_of (digit_bytes text) ≡ q.digits * 10 ^ scale
 
 -- the answer to a text
-abbrev pub Answers : List ℕ → Result Quantity DecimalError → Type 0
+abbrev pub Answers : List ℕ → Result DecimalNumber DecimalError → Type 0
 Answers text (Ok q) = IsDecimal text × IsValueOf text q
 Answers text (Err e) = RefusesDecimal text e

@@ -1,3 +1,4 @@
+pub mod DecimalNumber
 pub mod Decimals
 pub mod Left
 pub mod Names

@@ -2,7 +2,7 @@
 
 ghost use Rattle.std.specs.Prelude.{◌≡◌, ◌↔◌, ◌+◌, ◌<◌, ◌≤◌, ◌%◌, ◌+ℤ◌, pos, ℕ, IfOk, IsOk, MatchOption, Err, length, position};
 ghost use Rattle.wdf_text.specs.Decimals.{Answers, HasBadByte, HasNoDigit, HasNoStray, HasTooManyDigits, IsDecimal, IsFirstStray, IsTooLong, IsValueOf, digit_bytes, has_digit, is_dot, places, significant_digits};
-ghost use Rattle.wdf_text.specs.declared.quantity.Quantity.{Quantity};
+ghost use Rattle.wdf_text.specs.DecimalNumber.{DecimalNumber, IsNormal};
 ghost use Rattle.wdf_text.specs.Numbers.{digits_of_bytes};
 ghost use Rattle.wdf_text.specs.Significance.{IsSignificant};
 
@@ -76,6 +76,7 @@ fn quantity(read: Significant, places: usize) -> Quantity
     ensures digits { result.digits ≡ read.digits }
     ensures exp { 0 < read.digits → pos read.zeros ≡ result.exp +ℤ pos places }
     ensures zero { read.digits ≡ 0 → result.exp ≡ pos 0 }
+    ensures normal { IsNormal result }
 {
     if read.digits == 0 {
         return Quantity { digits: 0, exp: 0 };
@@ -88,7 +89,8 @@ fn quantity(read: Significant, places: usize) -> Quantity
 
 // The quantity that the text writes, or why there is none.
 fn read_decimal(text: &[u8]) -> Result<Quantity, DecimalError>
-    ensures { Answers text.now result }
+    ensures answer { Answers text.now result }
+    ensures normal { IfOk result IsNormal }
 {
     if text.len() > 40 {
         return Err(DecimalError::TooLong);
@@ -116,8 +118,9 @@ pub fn decimal(text: &[u8]) -> Result<Quantity, DecimalError>
     ensures read { IsOk result ↔ IsDecimal text.now }
     ensures value { IfOk result (IsValueOf text.now) }
 
-    // No other quantity is the number of the text.
-    ensures one_form { (p : Quantity) → IsValueOf text.now p → IfOk result (λ q. (p.digits ≡ q.digits) × (p.exp ≡ q.exp)) }
+    // No other number in its one form is that of the text.
+    ensures normal { IfOk result IsNormal }
+    ensures one_form { (p : DecimalNumber) → IsNormal p → IsValueOf text.now p → IfOk result (λ q. p ≡ q) }
 
     // Each refusal comes exactly where its cause is there, and none before it.
     ensures too_long { (result ≡ Err DecimalError.TooLong) ↔ IsTooLong text.now }

@@ -1,4 +1,4 @@
-ghost use Rattle.std.specs.Prelude.{◌≡◌, ◌%◌, pos};
+use std::marker::Model;
 
 /// A decimal number that is not negative, `digits · 10^exp`.
 ///
@@ -9,5 +9,16 @@ pub struct Quantity {
     pub digits: u64,
     /// The power of ten, 0 where `digits` is 0.
     pub exp: i8,
-    ghost normal: { digits % 10 ≡ 0 → (digits ≡ 0) × (exp ≡ pos 0) },
+}
+
+impl Model for Quantity {
+    ghost use Rattle.wdf_text.specs.DecimalNumber.{DecimalNumber, IsNormal};
+
+    ghost Value = { DecimalNumber };
+
+    ghost view = { λ q. record { digits = q.digits; exp = q.exp } };
+
+    ghost invariant = { λ q. IsNormal (record { digits = q.digits; exp = q.exp }) };
+
+    ghost inverse = { λ q. record { digits = q.digits; exp = q.exp } };
 }

@@ -10,8 +10,8 @@ quantity-requires-clause-zeros c =
     let few = zeros_few c.args.text.now read.digits read.count read.zeros c.in-Some-significant.ensures in
     omega (arith, few)
 
-pub returns-in-Some-significant : goal.returns-in-Some-significant
-returns-in-Some-significant c =
+pub returns-in-Some-significant-clause-answer : goal.returns-in-Some-significant-clause-answer
+returns-in-Some-significant-clause-answer c =
     let text = c.args.text.now in
     let read = c.in-Some-significant.read in
     let s = c.in-Some-significant.ensures in
