@@ -12,10 +12,15 @@ mod net;
 mod net_error;
 mod outlet;
 mod rules;
+mod side;
 mod tree;
 
 pub use kind::Kind;
 pub use net::Net;
 pub use net_error::NetError;
 pub use outlet::Outlet;
+pub use side::Side;
 pub use tree::Tree;
+
+/// The most sources of a network.
+pub const MAX_SOURCES: usize = 8;
