@@ -6,10 +6,13 @@ pub mod Laws
 pub mod Marks
 pub mod Network
 pub mod NetworkCode
+pub mod Outline
 pub mod OutputRule
 pub mod Refusal
+pub mod Reversal
 pub mod Run
 pub mod Solved
+pub mod Spans
 pub mod Step
 pub mod Trees
 pub mod WorkedFrames

@@ -6,19 +6,23 @@
 //! element (`Elements`), and from these the reference step and the reference run (`Step`, `Run`).
 #![tactic(auto)]
 
+mod connection;
 mod kind;
 pub mod laws;
 mod net;
 mod net_error;
 mod outlet;
 mod rules;
+mod shape;
 mod side;
 mod tree;
 
+pub use connection::Connection;
 pub use kind::Kind;
 pub use net::Net;
 pub use net_error::NetError;
 pub use outlet::Outlet;
+pub use shape::Shape;
 pub use side::Side;
 pub use tree::Tree;
 
