@@ -1,0 +1,9 @@
+//! From load waves to output samples: the load wave in units of the output, as the nearest value
+//! that an output sample holds, and whether that limited it.
+#![tactic(auto)]
+
+mod limited;
+#[cfg(test)]
+mod tests;
+
+pub use limited::{Limited, out_sample};
