@@ -4,7 +4,7 @@ use Rattle.wdf_law.specs.declared.connection.Connection.{Connection}
 use Rattle.wdf_law.specs.declared.connection.Connection.TheVariants.{Series, Parallel}
 use Rattle.wdf_law.specs.declared.kind.Kind.{Kind}
 use Rattle.wdf_law.specs.declared.shape.Shape.{Shape, Leaf, Ser', Par'}
-use Rattle.wdf_law.specs.Trees.{Element}
+use Rattle.wdf_law.specs.Trees.{LeafElement}
 
 pub data Outline : Type 0 where
   single : (elem : ℕ) (kind : Kind) (flip : Bool) → Outline
@@ -21,7 +21,7 @@ outline_depth (single _ _ _) = 0
 outline_depth (joined c l r) = 1 + max (outline_depth l) (outline_depth r)
 
 -- the elements, the first part before the second
-abbrev pub outline_elements : Outline → List Element
+abbrev pub outline_elements : Outline → List LeafElement
 outline_elements (single elem kind flip) = record { number = elem; kind = kind; flip = flip } ∷ []
 outline_elements (joined c l r) = outline_elements l ++ outline_elements r
 

@@ -5,7 +5,7 @@ use Rattle.std.specs.Prelude.{◌≡◌, ◌≢◌, ℕ, ◌+◌, ◌<◌, ◌�
 use Rattle.wdf_law.specs.declared.connection.Connection.TheVariants.{Series, Parallel}
 use Rattle.wdf_law.specs.declared.kind.Kind.{Kind}
 use Rattle.wdf_law.specs.Outline.{Outline, single, joined, times}
-use Rattle.wdf_law.specs.Trees.{Plain, leaf, series, parallel}
+use Rattle.wdf_law.specs.Trees.{AdaptorTree, leaf, series, parallel}
 
 -- an element as a circuit has it, written from one node to another
 pub record Branch : Type 0 where
@@ -39,7 +39,7 @@ Spans circuit (joined Series l r) p q = (s : ℕ) × Spans circuit l p s × Span
 Spans circuit (joined Parallel l r) p q = Spans circuit l p q × Spans circuit r p q × AreApart l r
 
 -- the outline of a tree of adaptors, which spans where its outline does
-abbrev pub outline_of : Plain → Outline
+abbrev pub outline_of : AdaptorTree → Outline
 outline_of (leaf elem kind flip) = single elem kind flip
 outline_of (series m l r) = joined Series (outline_of l) (outline_of r)
 outline_of (parallel m l r) = joined Parallel (outline_of l) (outline_of r)
