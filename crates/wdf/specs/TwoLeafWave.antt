@@ -1,7 +1,7 @@
 -- The wave of a network of a source and a load, solved: what the laws at its root and its two elements leave.
 use Rattle.std.specs.Prelude.{ℕ, ◌-◌, ◌^◌, ℤ, pos, ◌*ℤ◌, List, map}
 use Rattle.wdf_algebra.specs.Truncation.{trunc}
-use Rattle.wdf_algebra.specs.RootValue.{root_value}
+use Rattle.wdf_algebra.specs.JunctionValues.{root_value}
 use Rattle.wdf_law.specs.OutputRule.{output_of}
 use Rattle.wdf.specs.Plan.{guard, down_shift}
 
