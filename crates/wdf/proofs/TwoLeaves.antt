@@ -8,7 +8,7 @@ use Rattle.wdf_algebra.proofs.RootJunction.{root_voltage, root_currents, root_se
 use Rattle.wdf_law.specs.Junction.{IsRoot}
 use Rattle.wdf_law.specs.Elements.{IsResistor, IsSource}
 use Rattle.wdf_law.specs.Step.{Waves, ends, forks, Frame, IsStep}
-use Rattle.wdf_law.specs.Run.{IsRun}
+use Rattle.wdf_law.specs.Run.{IsRun, source_values}
 use Rattle.wdf_law.specs.OutputRule.{drive, load_wave, output_of}
 use Rattle.wdf.specs.Circuit.{two_leaves}
 use Rattle.wdf.specs.Plan.{guard, down_shift}
@@ -76,21 +76,21 @@ only_wave m x e (forks u d c1 c2 c l r) w b1 b2 few step = absurd step.left
 -- so the solved wave is the load wave by the laws
 pub is_load_wave : (m : ℕ) (e w : ℤ) → m ≤ 16384 → w ≡ wave_of m e → IsLoadWave (two_leaves m) e w
 is_load_wave m e w few same = record {
-  some = λ x. (frame_of m e, solves m x (λ i. e) few);
-  each = λ x s step. only_wave m x (λ i. e) s.left s.right s.b1 s.b2 few step ∙ sym same;
+  some = λ x. (frame_of m e, solves m x (source_values (two_leaves m) (e ∷ [])) few);
+  each = λ x s step. only_wave m x (source_values (two_leaves m) (e ∷ [])) s.left s.right s.b1 s.b2 few step ∙ sym same;
 }
 
-runs : (m : ℕ) (zs samples : List ℤ) → m ≤ 16384 → IsRun (two_leaves m) zs (inputs samples) (map (λ (s : ℤ). frame_of m (s *ℤ pos (2 ^ guard))) samples)
+runs : (m : ℕ) (zs samples : List ℤ) → m ≤ 16384 → IsRun (two_leaves m) zs (inputs (two_leaves m) samples) (map (λ (s : ℤ). frame_of m (s *ℤ pos (2 ^ guard))) samples)
 runs m zs [] few = tt
-runs m zs (s ∷ samples) few = (solves m _ (drive guard s) few, runs m _ samples few)
+runs m zs (s ∷ samples) few = (solves m _ (drive guard (two_leaves m) (s ∷ [])) few, runs m _ samples few)
 
-only_values : (m bits : ℕ) (zs samples : List ℤ) (steps : List Frame) → m ≤ 16384 → IsRun (two_leaves m) zs (inputs samples) steps
+only_values : (m bits : ℕ) (zs samples : List ℤ) (steps : List Frame) → m ≤ 16384 → IsRun (two_leaves m) zs (inputs (two_leaves m) samples) steps
     → outputs (two_leaves m) bits steps ≡ values_of m bits samples
 only_values m bits zs [] [] few run = refl
 only_values m bits zs [] (s ∷ steps) few run = absurd run
 only_values m bits zs (e ∷ samples) [] few run = absurd run
 only_values m bits zs (e ∷ samples) (s ∷ steps) few run =
-    let here = only_wave m _ (drive guard e) s.left s.right s.b1 s.b2 few run.0 in
+    let here = only_wave m _ (drive guard (two_leaves m) (e ∷ [])) s.left s.right s.b1 s.b2 few run.0 in
     let others = only_values m bits _ samples steps few run.1 in
     λ i. output_of down_shift bits (here i) ∷ others i
 

@@ -1,5 +1,5 @@
 -- What a run writes: the WAV of the load waves of a network, run from rest on the samples that are read.
-use Rattle.std.specs.Prelude.{◌≡◌, ℕ, ℤ, List, ◌++◌, map, replicate}
+use Rattle.std.specs.Prelude.{◌≡◌, ℕ, ℤ, List, [], ◌∷◌, ◌++◌, map, replicate}
 use Rattle.wdf_law.specs.Network.{Network}
 use Rattle.wdf_law.specs.Step.{Frame}
 use Rattle.wdf_law.specs.Run.{IsRun, at_rest}
@@ -9,9 +9,9 @@ use Rattle.wdf_wav.specs.Header.{head_bytes_of, pad_size}
 use Rattle.wdf_wav.specs.PcmStream.{samples_of, data_of}
 use Rattle.wdf.specs.Plan.{guard, down_shift}
 
--- the source's values for these samples
-abbrev pub inputs : List ℤ → List (ℕ → ℤ)
-inputs samples = map (drive guard) samples
+-- the input of each frame for these samples, of a network with one source
+abbrev pub inputs : Network → List ℤ → List (ℕ → ℤ)
+inputs n samples = map (λ (s : ℤ). drive guard n (s ∷ [])) samples
 
 -- the output values of a run's steps, at this number of bits
 abbrev pub outputs : Network → ℕ → List Frame → List ℤ
@@ -19,8 +19,8 @@ outputs n bits steps = map (λ (s : Frame). output_of down_shift bits (load_wave
 
 -- there is a reference run from rest on the samples, and each such run has these output values
 pub record GivesOutputs (n : Network) (bits : ℕ) (samples values : List ℤ) : Type 0 where
-  pub run : (steps : List Frame) × IsRun n (at_rest n) (inputs samples) steps
-  pub each : (steps : List Frame) → IsRun n (at_rest n) (inputs samples) steps → outputs n bits steps ≡ values
+  pub run : (steps : List Frame) × IsRun n (at_rest n) (inputs n samples) steps
+  pub each : (steps : List Frame) → IsRun n (at_rest n) (inputs n samples) steps → outputs n bits steps ≡ values
 
 -- the header, and the output values for the samples of body
 pub record IsResult (n : Network) (head : Head) (body bytes : List ℕ) : Type 0 where

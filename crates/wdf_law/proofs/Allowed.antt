@@ -2,15 +2,17 @@
 use Rattle.std.proofs.Common.{◌≡◌, ℕ, zero, suc, ◌+◌, ◌<◌, ◌≤◌, Bool, true, false, cond, not, ◌||◌, ◌&&◌, ◌==◌, nat_le, nat_lt, if◌then◌else◌, Option, None, Some, List, [], ◌∷◌, length, map, refl, ap, sym, ◌∙◌, subst, arith, length-append}
 use Rattle.std.specs.Prelude.{All}
 use Rattle.std.specs.Option.{option_or, option_map}
-use Rattle.std.specs.List.{find, range_with_len}
+use Rattle.std.specs.List.{find, range_with_len, slice_get}
 use Rattle.std.proofs.lemmas.Bool.Decides.{nat_tests}
 use Rattle.std.proofs.lemmas.List.{length-map}
 use Rattle.std.proofs.lemmas.List.Elements.{All-nil, All-cons}
 use Rattle.wdf_law.specs.declared.net_error.NetError.{NetError}
 use Rattle.wdf_law.specs.declared.net_error.NetError.TheVariants.{BadWidth, TooDeep, BadMultiplier}
+use Rattle.wdf_law.specs.declared.net.TheConstants.{MAX_SOURCES}
 use Rattle.wdf_law.specs.Trees.{AdaptorTree, leaf, series, parallel, LeafElement, elements_of, depth_of}
-use Rattle.wdf_law.specs.Network.{Network, IsNetwork, Adaptor, unit_of, elements, numbers, adaptors, sources, times_in}
-use Rattle.wdf_law.specs.Refusal.{unless, is_width, is_shallow, is_out, first_out, first_large, is_among, first_repeated, least_missing, number_fault, source_fault, refusal}
+use Rattle.wdf_law.specs.Network.{Network, IsNetwork, Adaptor, unit_of, elements, numbers, adaptors, source_numbers, times_in}
+use Rattle.wdf_law.specs.Refusal.{is_width, is_shallow, is_out, first_out, first_large, is_among, first_repeated, least_missing}
+use Rattle.wdf_law.specs.RefusalOrder.{unless, number_fault, source_fault, refusal}
 use Rattle.wdf_law.proofs.Pigeonhole.{few, all_below}
 
 neither : {A : Type 0} (p q : Option A) → option_or p q ≡ None → (p ≡ None) × (q ≡ None)
@@ -154,10 +156,19 @@ are_numbers xs large double missing =
       once = λ i h. omega (arith, stands i h, split.once i);
     }
 
-one_source : (xs : List LeafElement) → source_fault xs ≡ None → length xs ≡ 1
-one_source [] h = absurd (cc)
-one_source (x ∷ []) h = refl
-one_source (x ∷ y ∷ xs) h = absurd (cc)
+-- where no element stands at a place, none stands behind it
+pub ended : (xs : List ℕ) (i : ℕ) → slice_get xs i ≡ None → length xs ≤ i
+ended [] i h = omega arith
+ended (x ∷ xs) zero h = absurd (cc)
+ended (x ∷ xs) (suc i) h = omega (arith, ended xs i h)
+
+some_source : (xs : List ℕ) → source_fault xs ≡ None → 1 ≤ length xs
+some_source [] h = absurd (cc)
+some_source (x ∷ xs) h = omega arith
+
+few_sources : (xs : List ℕ) → source_fault xs ≡ None → length xs ≤ MAX_SOURCES
+few_sources [] h = absurd (cc)
+few_sources (x ∷ xs) h = ended (x ∷ xs) MAX_SOURCES (unmapped _ _ h)
 
 -- a tree has a leaf
 some_leaf : (t : AdaptorTree) → 1 ≤ length (elements_of t)
@@ -171,7 +182,7 @@ allowed n none =
     let b = neither (unless (is_shallow n) TooDeep) _ a.1 in
     let c = neither (option_map (λ (e : ℕ). BadMultiplier e) (first_out (unit_of n) (adaptors n))) _ b.1 in
     let d = neither (number_fault (numbers n)) _ c.1 in
-    let e = neither (source_fault (sources n)) _ d.1 in
+    let e = neither (source_fault (source_numbers n)) _ d.1 in
     let width = both (nat_le 1 n.k) (nat_le n.k 20) (passed _ _ a.0) in
     let depth = both (nat_le (depth_of n.left) 128) (nat_le (depth_of n.right) 128) (passed _ _ b.0) in
     let f = neither (option_map _ (first_large (numbers n))) _ d.0 in
@@ -185,7 +196,8 @@ allowed n none =
       most = subst (λ (c : ℕ). c ≤ 128) count are.most;
       below = subst (λ (c : ℕ). All (λ (i : ℕ). i < c) (numbers n)) count are.below;
       once = λ i h. are.once i (subst (λ (c : ℕ). i < c) (sym count) h);
-      one_source = one_source (sources n) e.0;
+      some_source = some_source (source_numbers n) e.0;
+      few_sources = few_sources (source_numbers n) e.0;
       outlet = passed _ _ e.1;
       left_depth = grind (arith, nat_tests);
       right_depth = grind (arith, nat_tests);

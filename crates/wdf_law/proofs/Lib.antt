@@ -16,5 +16,6 @@ pub mod Refusing
 pub mod Sources
 pub mod StateLemmas
 pub mod StepLemmas
+pub mod Unrefused
 pub mod Walks
 pub mod WaveLemmas

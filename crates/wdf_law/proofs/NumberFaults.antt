@@ -8,7 +8,8 @@ use Rattle.wdf_law.specs.declared.net_error.NetError.TheVariants.{BadElement, Do
 use Rattle.wdf_law.specs.Trees.{AdaptorTree, LeafElement, elements_of}
 use Rattle.wdf_law.specs.Network.{numbers_of}
 use Rattle.wdf_law.specs.Marks.{first_marked, marked}
-use Rattle.wdf_law.specs.Refusal.{first_large, first_repeated, least_missing, number_fault}
+use Rattle.wdf_law.specs.Refusal.{first_large, first_repeated, least_missing}
+use Rattle.wdf_law.specs.RefusalOrder.{number_fault}
 use Rattle.wdf_law.proofs.Allowed.{small, counted}
 use Rattle.wdf_law.proofs.Marking.{no_marks, first_marked-repeated, least_unmarked}
 
@@ -33,14 +34,14 @@ number_fault-missing xs c o count large double found =
     ∙ ap (option_map (λ (e : ℕ). MissingElement e)) (ap (least_missing xs) (sym count) ∙ (sym (least_unmarked xs c few) ∙ sym found)))
 
 -- how many leaves two trees have
-pub length_numbers : (l r : AdaptorTree) → length (numbers_of l ++ numbers_of r) ≡ length (elements_of l) + length (elements_of r)
+pub length_numbers : (l r : AdaptorTree) → length (numbers_of l ++ numbers_of r) ≡ length (elements_of l ++ elements_of r)
 length_numbers l r =
     let one = length-map (elements_of l) (λ (x : LeafElement). x.number) in
     let two = length-map (elements_of r) (λ (x : LeafElement). x.number) in
-    omega (arith, length-append (numbers_of l) (numbers_of r))
+    omega (arith, length-append (numbers_of l) (numbers_of r), length-append (elements_of l) (elements_of r))
 
 pub counted_leaves : (l r : AdaptorTree) → first_large (numbers_of l ++ numbers_of r) ≡ None → first_marked no_marks (numbers_of l ++ numbers_of r) ≡ None
-    → length (elements_of l) + length (elements_of r) ≤ 128
+    → length (elements_of l ++ elements_of r) ≤ 128
 counted_leaves l r large double =
     subst (λ (n : ℕ). n ≤ 128) (length_numbers l r)
     (counted _ large (sym (first_marked-repeated (numbers_of l ++ numbers_of r) (small _ large)) ∙ double))

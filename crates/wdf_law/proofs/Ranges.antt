@@ -1,7 +1,7 @@
 -- What a search through the numbers of a range finds.
-use Rattle.std.proofs.Common.{◌≡◌, ℕ, zero, suc, ◌+◌, ◌<◌, Bool, true, false, cond, None, Some, List, [], ◌∷◌, ◌++◌, refl, ap, ◌∙◌, arith, subst}
+use Rattle.std.proofs.Common.{◌≡◌, ℕ, zero, suc, ◌+◌, ◌<◌, Bool, true, false, cond, None, Some, List, [], ◌∷◌, ◌++◌, refl, ap, sym, ◌∙◌, arith, subst}
 use Rattle.std.specs.Prelude.{filter, length}
-use Rattle.std.specs.List.{find, range_with_len}
+use Rattle.std.specs.List.{find, range_with_len, slice_get}
 use Rattle.std.proofs.Common.{length-append}
 use Rattle.std.proofs.lemmas.List.Elements.{filter-append}
 
@@ -59,3 +59,32 @@ count_more p i =
     one : (b : Bool) → length (cond b (i ∷ []) []) ≡ cond {A = ℕ} b 1 0
     one true = refl
     one false = refl
+
+-- a number that passes stands behind those before it that pass
+passing_in : (p : ℕ → Bool) (i n a : ℕ) → i < n → p (a + i) ≡ true
+    → slice_get (filter p (range_with_len a n)) (length (filter p (range_with_len a i))) ≡ Some (a + i)
+passing_in p i zero a h here = absurd (omega arith)
+passing_in p zero (suc n) a h here =
+    let first : p a ≡ true = subst (λ (x : ℕ). p x ≡ true) (omega arith) here in
+    let at : a ≡ a + 0 = omega arith in
+    ap (λ (b : Bool). slice_get (cond b (a ∷ filter p (range_with_len (a + 1) n)) (filter p (range_with_len (a + 1) n))) 0) first ∙ ap (λ (x : ℕ). Some x) at
+passing_in p (suc i) (suc n) a h here =
+    let at : a + 1 + i ≡ a + suc i = omega arith in
+    by (p a) refl (passing_in p i n (a + 1) (omega arith) (subst (λ (x : ℕ). p x ≡ true) (omega arith) here)) ∙ ap (λ (x : ℕ). Some x) at
+  where
+    by : (b : Bool) → p a ≡ b
+        → slice_get (filter p (range_with_len (a + 1) n)) (length (filter p (range_with_len (a + 1) i))) ≡ Some (a + 1 + i)
+        → slice_get (filter p (range_with_len a (suc n))) (length (filter p (range_with_len a (suc i)))) ≡ Some (a + 1 + i)
+    by true e rest =
+        ap (λ (b : Bool). slice_get (cond b (a ∷ filter p (range_with_len (a + 1) n)) (filter p (range_with_len (a + 1) n)))
+        (length (cond b (a ∷ filter p (range_with_len (a + 1) i)) (filter p (range_with_len (a + 1) i))))) e ∙ rest
+    by false e rest =
+        ap (λ (b : Bool). slice_get (cond b (a ∷ filter p (range_with_len (a + 1) n)) (filter p (range_with_len (a + 1) n)))
+        (length (cond b (a ∷ filter p (range_with_len (a + 1) i)) (filter p (range_with_len (a + 1) i))))) e ∙ rest
+
+pub passing_at : (p : ℕ → Bool) (n i k : ℕ) → i < n → k ≡ length (filter p (range_with_len 0 i)) → p i ≡ true
+    → slice_get (filter p (range_with_len 0 n)) k ≡ Some i
+passing_at p n i k h count here =
+    let at : 0 + i ≡ i = omega arith in
+    ap (slice_get (filter p (range_with_len 0 n))) count
+    ∙ (passing_in p i n 0 h (subst (λ (x : ℕ). p x ≡ true) (sym at) here) ∙ ap (λ (x : ℕ). Some x) at)

@@ -10,6 +10,7 @@ pub mod Outline
 pub mod OutputRule
 pub mod Refusal
 pub mod Reversal
+pub mod RefusalOrder
 pub mod Run
 pub mod Solved
 pub mod Spans

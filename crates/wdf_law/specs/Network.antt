@@ -4,6 +4,7 @@ use Rattle.std.specs.Prelude.{◌≡◌, ℕ, ◌+◌, ◌^◌, if◌then◌else
 use Rattle.std.specs.List.{range_with_len, list_any}
 use Rattle.wdf_law.specs.declared.kind.Kind.{Kind}
 use Rattle.wdf_law.specs.declared.kind.Kind.TheVariants.{Res, Cap, Ind, Src}
+use Rattle.wdf_law.specs.declared.net.TheConstants.{MAX_SOURCES}
 use Rattle.wdf_law.specs.declared.outlet.Outlet.{Outlet}
 use Rattle.wdf_law.specs.declared.outlet.Outlet.TheVariants.{Load, Source}
 use Rattle.wdf_law.specs.declared.tree.Tree.{Tree}
@@ -88,17 +89,22 @@ has_reactance xs i = list_any (λ (x : LeafElement). (x.number == i) && is_react
 abbrev pub has_resistor : List LeafElement → ℕ → Bool
 has_resistor xs i = list_any (λ (x : LeafElement). (x.number == i) && is_resistor x.kind) xs
 
+-- a source with this number is among the elements
+abbrev pub has_source : List LeafElement → ℕ → Bool
+has_source xs i = list_any (λ (x : LeafElement). (x.number == i) && is_source x.kind) xs
+
 -- a load is the number of a resistor
 abbrev pub has_outlet : List LeafElement → Outlet → Bool
 has_outlet xs (Load i) = has_resistor xs i
 has_outlet xs Source = true
 
--- the elements of a tree that are sources, and of a network
-abbrev pub sources_of : AdaptorTree → List LeafElement
-sources_of t = filter (λ (x : LeafElement). is_source x.kind) (elements_of t)
+-- the numbers below the count of the elements at which they have what is asked, in their order
+abbrev pub numbers_with : (List LeafElement → ℕ → Bool) → List LeafElement → List ℕ
+numbers_with has xs = filter (has xs) (range_with_len 0 (length xs))
 
-abbrev pub sources : Network → List LeafElement
-sources n = filter (λ (x : LeafElement). is_source x.kind) (elements n)
+-- the numbers of the sources, in netlist order: source 0, source 1, ..
+abbrev pub source_numbers : Network → List ℕ
+source_numbers n = numbers_with has_source (elements n)
 
 -- how often a number stands in a list
 abbrev pub times_in : List ℕ → ℕ → ℕ
@@ -115,11 +121,12 @@ pub record IsNetwork (n : Network) : Type 0 where
   -- the elements are the numbers below their count, each once
   pub below : All (λ (i : ℕ). i < length (elements n)) (numbers n)
   pub once : (i : ℕ) → i < length (elements n) → times_in (numbers n) i ≡ 1
-  pub one_source : length (sources n) ≡ 1
+  pub some_source : 1 ≤ length (source_numbers n)
+  pub few_sources : length (source_numbers n) ≤ MAX_SOURCES
   pub outlet : IsTrue (has_outlet (elements n) n.outlet)
   pub left_depth : depth_of n.left ≤ 128
   pub right_depth : depth_of n.right ≤ 128
 
 -- the numbers of the reactances, in netlist order
 abbrev pub reactances : Network → List ℕ
-reactances n = filter (has_reactance (elements n)) (range_with_len 0 (length (elements n)))
+reactances n = numbers_with has_reactance (elements n)

@@ -1,11 +1,10 @@
--- Which rule of a network is broken first, in the order of these definitions.
-use Rattle.std.specs.Prelude.{◌≡◌, ℕ, Bool, true, false, not, ◌&&◌, ◌==◌, nat_le, nat_lt, if◌then◌else◌, List, [], ◌∷◌, length, Option, None, Some}
-use Rattle.std.specs.List.{range_with_len, list_any, find}
-use Rattle.std.specs.Option.{option_or, option_map}
-use Rattle.wdf_law.specs.declared.net_error.NetError.{NetError}
-use Rattle.wdf_law.specs.declared.net_error.NetError.TheVariants.{BadWidth, TooDeep, BadMultiplier, BadElement, DoubleElement, MissingElement, NoSource, DoubleSource, NoOutlet}
-use Rattle.wdf_law.specs.Trees.{LeafElement, depth_of}
-use Rattle.wdf_law.specs.Network.{Network, Adaptor, unit_of, elements, numbers, adaptors, sources, has_outlet}
+-- Where each refusal of a network comes: its rule is broken, and none before it, in the order of these records.
+use Rattle.std.specs.Prelude.{◌≡◌, ℕ, ◌≤◌, Bool, true, false, not, ◌&&◌, ◌==◌, nat_le, nat_lt, if◌then◌else◌, List, [], ◌∷◌, length, Option, None, Some}
+use Rattle.std.specs.List.{range_with_len, list_any, find, slice_get}
+use Rattle.std.specs.Option.{option_map}
+use Rattle.wdf_law.specs.declared.net.TheConstants.{MAX_SOURCES}
+use Rattle.wdf_law.specs.Trees.{depth_of}
+use Rattle.wdf_law.specs.Network.{Network, Adaptor, unit_of, elements, numbers, adaptors, source_numbers, has_outlet}
 
 -- ---- the rules, each as a test or as the first place at which it is broken
 
@@ -42,45 +41,21 @@ first_repeated seen (i ∷ is) = if is_among seen i then Some i else first_repea
 abbrev pub least_missing : List ℕ → ℕ → Option ℕ
 least_missing xs count = find (λ (i : ℕ). not (is_among xs i)) (range_with_len 0 count)
 
--- no source, or the number of the second
-abbrev pub source_fault : List LeafElement → Option NetError
-source_fault [] = Some NoSource
-source_fault (x ∷ []) = None
-source_fault (x ∷ y ∷ rest) = Some (DoubleSource y.number)
+-- ---- the refusals
 
--- ---- the first rule that is broken
+pub record HasBadWidth (n : Network) (k : ℕ) : Type 0 where
+  pub width : is_width n ≡ false
+  pub same : n.k ≡ k
 
--- the error where the test fails
-abbrev pub unless : Bool → NetError → Option NetError
-unless true e = None
-unless false e = Some e
+pub record IsTooDeep (n : Network) : Type 0 where
+  pub width : is_width n ≡ true
+  pub deep : is_shallow n ≡ false
 
--- a number of 128 or more, then a number that an earlier leaf has, then one that no leaf has
-abbrev pub number_fault : List ℕ → Option NetError
-number_fault xs =
-    option_or (option_map (λ (e : ℕ). BadElement e) (first_large xs))
-    (option_or (option_map (λ (e : ℕ). DoubleElement e) (first_repeated [] xs))
-    (option_map (λ (e : ℕ). MissingElement e) (least_missing xs (length xs))))
-
-abbrev pub refusal : Network → Option NetError
-refusal n =
-    option_or (unless (is_width n) (BadWidth n.k))
-    (option_or (unless (is_shallow n) TooDeep)
-    (option_or (option_map (λ (e : ℕ). BadMultiplier e) (first_out (unit_of n) (adaptors n)))
-    (option_or (number_fault (numbers n))
-    (option_or (source_fault (sources n))
-    (unless (has_outlet (elements n) n.outlet) NoOutlet)))))
-
--- ---- where each refusal comes: its rule is broken, and none before it
-
-abbrev pub HasBadWidth : Network → ℕ → Type 0
-HasBadWidth n k = (is_width n ≡ false) × (n.k ≡ k)
-
-abbrev pub IsTooDeep : Network → Type 0
-IsTooDeep n = (is_width n ≡ true) × (is_shallow n ≡ false)
-
-abbrev pub HasBadMultiplier : Network → ℕ → Type 0
-HasBadMultiplier n e = (is_width n ≡ true) × (is_shallow n ≡ true) × (first_out (unit_of n) (adaptors n) ≡ Some e)
+-- e is the first leaf of the first adaptor whose multiplier is out of range
+pub record HasBadMultiplier (n : Network) (e : ℕ) : Type 0 where
+  pub width : is_width n ≡ true
+  pub depth : is_shallow n ≡ true
+  pub first : first_out (unit_of n) (adaptors n) ≡ Some e
 
 -- the rules on width, depth and multipliers hold
 pub record HasGoodShape (n : Network) : Type 0 where
@@ -88,15 +63,20 @@ pub record HasGoodShape (n : Network) : Type 0 where
   pub depth : is_shallow n ≡ true
   pub multipliers : first_out (unit_of n) (adaptors n) ≡ None
 
-abbrev pub HasBadElement : Network → ℕ → Type 0
-HasBadElement n e = HasGoodShape n × (first_large (numbers n) ≡ Some e)
+pub record HasBadElement (n : Network) (e : ℕ) : Type 0 where
+  pub shape : HasGoodShape n
+  pub first : first_large (numbers n) ≡ Some e
 
-abbrev pub HasDoubleElement : Network → ℕ → Type 0
-HasDoubleElement n e = HasGoodShape n × (first_large (numbers n) ≡ None) × (first_repeated [] (numbers n) ≡ Some e)
+pub record HasDoubleElement (n : Network) (e : ℕ) : Type 0 where
+  pub shape : HasGoodShape n
+  pub small : first_large (numbers n) ≡ None
+  pub first : first_repeated [] (numbers n) ≡ Some e
 
-abbrev pub HasMissingElement : Network → ℕ → Type 0
-HasMissingElement n e =
-    HasGoodShape n × (first_large (numbers n) ≡ None) × (first_repeated [] (numbers n) ≡ None) × (least_missing (numbers n) (length (numbers n)) ≡ Some e)
+pub record HasMissingElement (n : Network) (e : ℕ) : Type 0 where
+  pub shape : HasGoodShape n
+  pub small : first_large (numbers n) ≡ None
+  pub apart : first_repeated [] (numbers n) ≡ None
+  pub least : least_missing (numbers n) (length (numbers n)) ≡ Some e
 
 -- so do those on numbers
 pub record HasGoodNumbers (n : Network) : Type 0 where
@@ -105,23 +85,17 @@ pub record HasGoodNumbers (n : Network) : Type 0 where
   pub apart : first_repeated [] (numbers n) ≡ None
   pub complete : least_missing (numbers n) (length (numbers n)) ≡ None
 
-abbrev pub HasNoSource : Network → Type 0
-HasNoSource n = HasGoodNumbers n × (source_fault (sources n) ≡ Some NoSource)
+pub record HasNoSource (n : Network) : Type 0 where
+  pub numbers : HasGoodNumbers n
+  pub none : source_numbers n ≡ []
 
-abbrev pub HasDoubleSource : Network → ℕ → Type 0
-HasDoubleSource n e = HasGoodNumbers n × (source_fault (sources n) ≡ Some (DoubleSource e))
+-- e is the source with the number MAX_SOURCES, the first too many
+pub record HasTooManySources (n : Network) (e : ℕ) : Type 0 where
+  pub numbers : HasGoodNumbers n
+  pub source : slice_get (source_numbers n) MAX_SOURCES ≡ Some e
 
-abbrev pub HasNoOutlet : Network → Type 0
-HasNoOutlet n = HasGoodNumbers n × (source_fault (sources n) ≡ None) × (has_outlet (elements n) n.outlet ≡ false)
-
--- the same as one table
-abbrev pub Refuses : Network → NetError → Type 0
-Refuses n (BadWidth k) = HasBadWidth n k
-Refuses n TooDeep = IsTooDeep n
-Refuses n (BadMultiplier e) = HasBadMultiplier n e
-Refuses n (BadElement e) = HasBadElement n e
-Refuses n (DoubleElement e) = HasDoubleElement n e
-Refuses n (MissingElement e) = HasMissingElement n e
-Refuses n NoSource = HasNoSource n
-Refuses n (DoubleSource e) = HasDoubleSource n e
-Refuses n NoOutlet = HasNoOutlet n
+pub record HasNoOutlet (n : Network) : Type 0 where
+  pub numbers : HasGoodNumbers n
+  pub some : 1 ≤ length (source_numbers n)
+  pub few : length (source_numbers n) ≤ MAX_SOURCES
+  pub outlet : has_outlet (elements n) n.outlet ≡ false

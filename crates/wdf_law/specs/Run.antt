@@ -1,6 +1,6 @@
 -- The reference run: step after step, each from the state that the one before left.
 use Rattle.std.specs.Prelude.{ℕ, ℤ, pos, ◌==◌, if◌then◌else◌, List, [], ◌∷◌, map}
-use Rattle.wdf_law.specs.Network.{Network, reactances}
+use Rattle.wdf_law.specs.Network.{Network, reactances, source_numbers}
 use Rattle.wdf_law.specs.Step.{Frame, IsStep, after}
 
 -- what a list of values by the list of its keys has at a key, 0 where it has none
@@ -12,6 +12,10 @@ entry (k ∷ ks) (z ∷ zs) i = if k == i then z else entry ks zs i
 -- the states by the element's number, from their list in netlist order
 abbrev pub states : Network → List ℤ → ℕ → ℤ
 states n zs = entry (reactances n) zs
+
+-- the sources' values by the element's number, from their list in netlist order: the first is that of source 0
+abbrev pub source_values : Network → List ℤ → ℕ → ℤ
+source_values n es = entry (source_numbers n) es
 
 -- at rest every state is 0
 abbrev pub at_rest : Network → List ℤ

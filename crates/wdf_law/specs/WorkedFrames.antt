@@ -1,16 +1,17 @@
 -- Frames worked by hand, k = 14 and so q = 16384, against which the definitions of a step are checked.
 use Rattle.std.specs.Prelude.{◌≡◌, ℤ, pos, neg_ℤ, true, false, List, [], ◌∷◌}
 use Rattle.wdf_law.specs.declared.kind.Kind.TheVariants.{Res, Cap, Ind, Src}
-use Rattle.wdf_law.specs.declared.outlet.Outlet.TheVariants.{Load}
+use Rattle.wdf_law.specs.declared.outlet.Outlet.{Outlet}
+use Rattle.wdf_law.specs.declared.outlet.Outlet.TheVariants.{Load, Source}
 use Rattle.wdf_law.specs.Trees.{leaf, series, parallel}
 use Rattle.wdf_law.specs.Network.{Network}
 use Rattle.wdf_law.specs.Step.{ends, forks, Frame, IsStep, after}
-use Rattle.wdf_law.specs.Run.{states}
-use Rattle.wdf_law.specs.OutputRule.{drive, load_wave}
+use Rattle.wdf_law.specs.Run.{states, source_values}
+use Rattle.wdf_law.specs.OutputRule.{load_wave}
 
--- these numbers are the step from the state with a silent or a driven source, and leave this state and wave
-pub record IsWorked (n : Network) (before : List ℤ) (e : ℤ) (s : Frame) (behind : List ℤ) (w : ℤ) : Type 0 where
-  pub step : IsStep n (states n before) (drive 0 e) s
+-- these numbers are the step from the state with these values of the sources, and leave this state and wave
+pub record IsWorked (n : Network) (before es : List ℤ) (s : Frame) (behind : List ℤ) (w : ℤ) : Type 0 where
+  pub step : IsStep n (states n before) (source_values n es) s
   pub after : after n s ≡ behind
   pub wave : load_wave n s ≡ w
 
@@ -72,11 +73,35 @@ flipped_frame = record {
   right = ends (pos 0) (neg_ℤ (pos 16));
 }
 
--- all four
+-- Two sources whose numbers are against their places, source 0 flipped: it stands in the right tree, and its down
+-- wave is the output.
+abbrev pub two_sources : Outlet → Network
+two_sources outlet = record {
+  k = 14;
+  m = 8192;
+  left = leaf 2 Src false;
+  right = series 4096 (leaf 0 Src true) (parallel 12288 (leaf 1 Ind false) (leaf 3 Res true));
+  outlet = outlet;
+}
+
+abbrev pub two_sources_frame : Frame
+two_sources_frame = record {
+  b1 = neg_ℤ (pos 458752);
+  b2 = neg_ℤ (pos 16400384);
+  left = ends (neg_ℤ (pos 1001)) (neg_ℤ (pos 28));
+  right = forks (neg_ℤ (pos 28)) (neg_ℤ (pos 1001)) (neg_ℤ (pos 16715776)) (pos 315392) (neg_ℤ (pos 458752))
+      (ends (neg_ℤ (pos 777)) (neg_ℤ (pos 1020)))
+      (forks (pos 749) (pos 19) (neg_ℤ (pos 3780608)) (pos 12587008) (pos 12275712) (ends (pos 999) (neg_ℤ (pos 230))) (ends (pos 0) (pos 768)));
+}
+
+-- all of them
 pub record AreWorked : Type 0 where
   -- the capacitor's state is the down wave of the frame before
-  pub capacitor : IsWorked capacitor_circuit (neg_ℤ (pos 3641) ∷ []) (pos 0) capacitor_frame (pos 1214 ∷ []) (neg_ℤ (pos 2426))
+  pub capacitor : IsWorked capacitor_circuit (neg_ℤ (pos 3641) ∷ []) (pos 0 ∷ []) capacitor_frame (pos 1214 ∷ []) (neg_ℤ (pos 2426))
   -- with this state an inductor reflects what the capacitor does, so every number is the same
-  pub inductor : IsWorked inductor_circuit (pos 3641 ∷ []) (pos 0) capacitor_frame (pos 1214 ∷ []) (neg_ℤ (pos 2426))
-  pub series : IsWorked series_circuit [] (pos 3000) series_frame [] (pos 2000)
-  pub flipped : IsWorked flipped_source [] (pos 16) flipped_frame [] (neg_ℤ (pos 16))
+  pub inductor : IsWorked inductor_circuit (pos 3641 ∷ []) (pos 0 ∷ []) capacitor_frame (pos 1214 ∷ []) (neg_ℤ (pos 2426))
+  pub series : IsWorked series_circuit [] (pos 3000 ∷ []) series_frame [] (pos 2000)
+  pub flipped : IsWorked flipped_source [] (pos 16 ∷ []) flipped_frame [] (neg_ℤ (pos 16))
+  -- the down wave at source 0 is -1020
+  pub source_outlet : IsWorked (two_sources Source) (neg_ℤ (pos 999) ∷ []) (pos 777 ∷ neg_ℤ (pos 1001) ∷ []) two_sources_frame (neg_ℤ (pos 230) ∷ []) (pos 1020)
+  pub load_outlet : IsWorked (two_sources (Load 3)) (neg_ℤ (pos 999) ∷ []) (pos 777 ∷ neg_ℤ (pos 1001) ∷ []) two_sources_frame (neg_ℤ (pos 230) ∷ []) (neg_ℤ (pos 768))

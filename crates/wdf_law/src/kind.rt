@@ -9,7 +9,7 @@ pub enum Kind {
     Cap,
     /// An inductor.
     Ind,
-    /// The source, a voltage in series with a resistance.
+    /// A source, a voltage in series with a resistance.
     Src,
 }
 

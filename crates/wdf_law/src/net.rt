@@ -1,19 +1,25 @@
 ghost use Rattle.std.specs.Prelude.{◌≡◌, ℕ, ◌<◌, ◌≤◌, ◌^◌, ◌↔◌, ◌++◌, length, None, Some, IsOk, IfOk, slice_get, map};
 ghost use Rattle.wdf_law.specs.Trees.{adaptor_tree};
-ghost use Rattle.wdf_law.specs.Network.{IsNetwork, Adaptor, network_of, adaptors_of, elements, multipliers, reactances, has_reactance};
+ghost use Rattle.wdf_law.specs.Network.{IsNetwork, Adaptor, network_of, adaptors_of, elements, multipliers, reactances, has_reactance, source_numbers};
 ghost use Rattle.wdf_law.specs.Marks.{number_behind};
-ghost use Rattle.wdf_law.specs.Refusal.{refusal, HasBadWidth, IsTooDeep, HasBadMultiplier, HasBadElement, HasDoubleElement, HasMissingElement, HasNoSource, HasDoubleSource, HasNoOutlet};
+ghost use Rattle.wdf_law.specs.OutputRule.{outlet_element};
+ghost use Rattle.wdf_law.specs.Refusal.{HasBadWidth, IsTooDeep, HasBadMultiplier, HasBadElement, HasDoubleElement, HasMissingElement, HasNoSource, HasTooManySources, HasNoOutlet};
+ghost use Rattle.wdf_law.specs.declared.net.TheConstants.{MAX_SOURCES};
 
-use crate::rules::refused;
+use crate::rules::{is_source, leaves, refused, source_behind};
 use crate::{NetError, Outlet, Tree};
 use std::marker::Model;
+
+/// The most sources of a network.
+pub const MAX_SOURCES: usize = 8;
 
 /// A quantised network: a left and a right tree of adaptors that are joined at the root. Its
 /// multipliers are counted in units of `2^-k`.
 ///
 /// It keeps that `k` is in 1..=20 and every multiplier in `1..=2^k - 1`; that its elements are the
-/// numbers from 0 to their count less 1, each once, at least 2 and at most 128 of them; that just
-/// one is a source; that an outlet `Load` names a resistor; and that no tree is deeper than 128.
+/// numbers from 0 to their count less 1, each once, at least 2 and at most 128 of them; that 1 to
+/// [`MAX_SOURCES`] are sources; that an outlet `Load` names a resistor; and that no tree is deeper
+/// than 128. Its sources are numbered from 0 in the order of their elements' numbers.
 #[derive(Drop)]
 pub struct Net {
     k: u8,
@@ -49,7 +55,7 @@ impl Net {
     ///
     /// The first rule that is broken, in the order of the variants of [`NetError`].
     pub fn new(k: u8, m: u32, left: Tree, right: Tree, outlet: Outlet) -> Result<Net, NetError>
-        ensures accepted { IsOk result ↔ (refusal (network_of k m left right outlet) ≡ None) }
+        ensures accepted { IsOk result ↔ IsNetwork (network_of k m left right outlet) }
         ensures network { IfOk result (λ net. net ≡ network_of k m left right outlet) }
 
         // Each refusal comes exactly where its rule is broken, and none before it.
@@ -60,7 +66,7 @@ impl Net {
         ensures double_element { (e : ℕ) → (result ≡ Err (NetError.DoubleElement e)) ↔ HasDoubleElement (network_of k m left right outlet) e }
         ensures missing_element { (e : ℕ) → (result ≡ Err (NetError.MissingElement e)) ↔ HasMissingElement (network_of k m left right outlet) e }
         ensures no_source { (result ≡ Err NetError.NoSource) ↔ HasNoSource (network_of k m left right outlet) }
-        ensures double_source { (e : ℕ) → (result ≡ Err (NetError.DoubleSource e)) ↔ HasDoubleSource (network_of k m left right outlet) e }
+        ensures too_many_sources { (e : ℕ) → (result ≡ Err (NetError.TooManySources e)) ↔ HasTooManySources (network_of k m left right outlet) e }
         ensures no_outlet { (result ≡ Err NetError.NoOutlet) ↔ HasNoOutlet (network_of k m left right outlet) }
     {
         match refused(k, m, &left, &right, outlet) {
@@ -111,13 +117,28 @@ impl Net {
         self.outlet
     }
 
+    /// The number of the element whose down wave is the output: the load's, or that of source 0.
+    #[tactic(auto, using(crate::proofs::Counts::outlet_source))]
+    pub fn outlet_element(&self) -> u32
+        ensures { result ≡ outlet_element self.now }
+    {
+        match self.outlet {
+            Outlet::Load(number) => number,
+            Outlet::Source => match self.source_at(0) {
+                Some(number) => number,
+                // Every network has a source.
+                None => unreachable!(),
+            },
+        }
+    }
+
     /// How many elements the network has.
-    #[tactic(auto, using(crate::proofs::Counts::counts_of))]
     pub fn element_count(&self) -> usize
         ensures count { result ≡ length (elements self.now) }
+        ensures some { 2 ≤ result }
         ensures few { result ≤ 128 }
     {
-        self.left.leaf_count() + self.right.leaf_count()
+        leaves(&self.left, &self.right)
     }
 
     /// How many capacitors and inductors the network has: the length of its state.
@@ -132,6 +153,30 @@ impl Net {
             }
         }
         count
+    }
+
+    /// How many sources the network has: the length of its input.
+    #[tactic(auto, using(crate::proofs::Ranges::count_more))]
+    pub fn source_count(&self) -> usize
+        ensures count { result ≡ length (source_numbers self.now) }
+        ensures some { 1 ≤ result }
+        ensures few { result ≤ MAX_SOURCES }
+    {
+        let mut count = 0;
+        for i in 0..self.element_count() {
+            if is_source(&self.left, &self.right, i as u32) {
+                count += 1;
+            }
+        }
+        count
+    }
+
+    /// The element that is source `i`, where there is one.
+    pub fn source_at(&self, i: usize) -> Option<u32>
+        ensures number { result ≡ slice_get (source_numbers self.now) i }
+        ensures none { (result ≡ None) ↔ (length (source_numbers self.now) ≤ i) }
+    {
+        source_behind(&self.left, &self.right, i)
     }
 
     /// A multiplier, in units of `2^-k`, in the order root, left tree, right tree, each junction

@@ -16,8 +16,8 @@ pub enum NetError {
     MissingElement { elem: u32 },
     /// No leaf is a source.
     NoSource,
-    /// A leaf before this source is a source too.
-    DoubleSource { elem: u32 },
+    /// This is the source with the number [`MAX_SOURCES`](crate::MAX_SOURCES): there are more.
+    TooManySources { elem: u32 },
     /// The outlet's load is not the number of a resistor.
     NoOutlet,
 }

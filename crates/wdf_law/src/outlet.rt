@@ -3,6 +3,6 @@
 pub enum Outlet {
     /// The resistor with this number.
     Load(u32),
-    /// The source.
+    /// Source 0, the first source by its element's number.
     Source,
 }

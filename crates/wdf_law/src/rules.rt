@@ -1,12 +1,13 @@
 // The rules of a network, one function for each that may be broken.
-ghost use Rattle.std.specs.Prelude.{◌≡◌, ◌≤◌, ◌+◌, ◌^◌, ◌++◌, ◌∷◌, length, map, filter, not, None, IfNone, replicate, slice_index_or, false};
+ghost use Rattle.std.specs.Prelude.{◌≡◌, ◌≤◌, ◌+◌, ◌^◌, ◌++◌, ◌∷◌, length, not, None, IfNone, replicate, slice_get, slice_index_or, false};
 ghost use Rattle.std.specs.List.{find, range_with_len};
-ghost use Rattle.wdf_law.specs.Trees.{adaptor_tree, LeafElement, elements_of, first_of};
-ghost use Rattle.wdf_law.specs.Network.{adaptors_between, network_of, numbers_of, sources_of, has_outlet};
-ghost use Rattle.wdf_law.specs.Refusal.{refusal, first_out, first_large, number_fault, source_fault};
-ghost use Rattle.wdf_law.specs.Marks.{first_marked, marked, number_behind};
+ghost use Rattle.wdf_law.specs.Trees.{adaptor_tree, elements_of, first_of};
+ghost use Rattle.wdf_law.specs.Network.{adaptors_between, network_of, numbers_of, numbers_with, has_source, has_outlet};
+ghost use Rattle.wdf_law.specs.Refusal.{first_out, first_large};
+ghost use Rattle.wdf_law.specs.RefusalOrder.{refusal, number_fault, source_fault};
+ghost use Rattle.wdf_law.specs.Marks.{first_marked, marked};
 
-use crate::{NetError, Outlet, Tree};
+use crate::{MAX_SOURCES, NetError, Outlet, Tree};
 
 // The first leaf of the first adaptor whose multiplier is not in 1..=q-1, the root first.
 #[tactic(auto, using(crate::proofs::Walks::walks))]
@@ -57,28 +58,54 @@ fn missing(marks: &[bool; 128], count: usize) -> Option<u32>
     None
 }
 
-// The number of the source behind `skip` others, or how many are still to skip.
-#[tactic(auto, using(crate::proofs::Walks::walks))]
-fn source_behind(left: &Tree, right: &Tree, skip: usize) -> Result<u32, usize>
-    ensures { result ≡ number_behind skip (map (λ (x : LeafElement). x.number) (sources_of (adaptor_tree left.now) ++ sources_of (adaptor_tree right.now))) }
+// How many leaves two trees have.
+#[tactic(auto, using(crate::proofs::Counts::counts_of))]
+pub(crate) fn leaves(left: &Tree, right: &Tree) -> usize
+    requires { length (elements_of (adaptor_tree left.now) ++ elements_of (adaptor_tree right.now)) ≤ 128 }
+    ensures { result ≡ length (elements_of (adaptor_tree left.now) ++ elements_of (adaptor_tree right.now)) }
 {
-    match left.source_behind(skip) {
-        Ok(elem) => Ok(elem),
-        Err(skip) => right.source_behind(skip),
-    }
+    left.leaf_count() + right.leaf_count()
 }
 
-// No source, or a second one.
+// Whether a source of two trees has this number.
+#[tactic(auto, using(crate::proofs::Walks::walks))]
+pub(crate) fn is_source(left: &Tree, right: &Tree, number: u32) -> bool
+    ensures { result ≡ has_source (elements_of (adaptor_tree left.now) ++ elements_of (adaptor_tree right.now)) number }
+{
+    left.has_source(number) || right.has_source(number)
+}
+
+// The number of the source behind `skip` others, in the order of the numbers.
+#[tactic(auto, using(crate::proofs::Ranges::count_more, crate::proofs::Ranges::passing_at))]
+pub(crate) fn source_behind(left: &Tree, right: &Tree, skip: usize) -> Option<u32>
+    requires { length (elements_of (adaptor_tree left.now) ++ elements_of (adaptor_tree right.now)) ≤ 128 }
+    ensures { result ≡ slice_get (numbers_with has_source (elements_of (adaptor_tree left.now) ++ elements_of (adaptor_tree right.now))) skip }
+{
+    let mut before = 0;
+    for i in 0..leaves(left, right) {
+        if !is_source(left, right, i as u32) {
+            continue;
+        }
+        if before == skip {
+            return Some(i as u32);
+        }
+        before += 1;
+    }
+    None
+}
+
+// No source, or one too many.
 #[tactic(auto, using(crate::proofs::Sources::source_faults))]
 fn source(left: &Tree, right: &Tree) -> Option<NetError>
-    ensures { result ≡ source_fault (sources_of (adaptor_tree left.now) ++ sources_of (adaptor_tree right.now)) }
+    requires { length (elements_of (adaptor_tree left.now) ++ elements_of (adaptor_tree right.now)) ≤ 128 }
+    ensures { result ≡ source_fault (numbers_with has_source (elements_of (adaptor_tree left.now) ++ elements_of (adaptor_tree right.now))) }
 {
-    if source_behind(left, right, 0).is_err() {
+    if source_behind(left, right, 0).is_none() {
         return Some(NetError::NoSource);
     }
-    match source_behind(left, right, 1) {
-        Ok(elem) => Some(NetError::DoubleSource { elem }),
-        Err(_) => None,
+    match source_behind(left, right, MAX_SOURCES) {
+        Some(elem) => Some(NetError::TooManySources { elem }),
+        None => None,
     }
 }
 
@@ -94,7 +121,8 @@ fn outlet_stands(left: &Tree, right: &Tree, outlet: Outlet) -> bool
 
 // A number of 128 or more, a double number, or a missing one.
 fn number_fault(left: &Tree, right: &Tree) -> Option<NetError>
-    ensures { result ≡ number_fault (numbers_of (adaptor_tree left.now) ++ numbers_of (adaptor_tree right.now)) }
+    ensures fault { result ≡ number_fault (numbers_of (adaptor_tree left.now) ++ numbers_of (adaptor_tree right.now)) }
+    ensures few { IfNone result (length (elements_of (adaptor_tree left.now) ++ elements_of (adaptor_tree right.now)) ≤ 128) }
 {
     if let Some(elem) = large(left, right) {
         return Some(NetError::BadElement { elem });
@@ -103,8 +131,7 @@ fn number_fault(left: &Tree, right: &Tree) -> Option<NetError>
     if let Some(elem) = double(left, right, &mut marks) {
         return Some(NetError::DoubleElement { elem });
     }
-    let count = left.leaf_count() + right.leaf_count();
-    match missing(&marks, count) {
+    match missing(&marks, leaves(left, right)) {
         Some(elem) => Some(NetError::MissingElement { elem }),
         None => None,
     }

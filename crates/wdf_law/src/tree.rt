@@ -1,6 +1,6 @@
-ghost use Rattle.std.specs.Prelude.{◌≡◌, ◌≤◌, length, map, nat_le, IfNone};
-ghost use Rattle.wdf_law.specs.Trees.{adaptor_tree, LeafElement, depth_of, elements_of, first_of};
-ghost use Rattle.wdf_law.specs.Network.{adaptors_of, multipliers_of, numbers_of, sources_of, has_resistor, has_reactance};
+ghost use Rattle.std.specs.Prelude.{◌≡◌, ◌≤◌, length, nat_le, IfNone};
+ghost use Rattle.wdf_law.specs.Trees.{adaptor_tree, depth_of, elements_of, first_of};
+ghost use Rattle.wdf_law.specs.Network.{adaptors_of, multipliers_of, numbers_of, has_resistor, has_reactance, has_source};
 ghost use Rattle.wdf_law.specs.Refusal.{first_out, first_large};
 ghost use Rattle.wdf_law.specs.Marks.{first_marked, marked, number_behind};
 
@@ -121,28 +121,6 @@ impl Tree {
         }
     }
 
-    // The number of the source behind `skip` others, or how many are still to skip.
-    #[tactic(auto, using(crate::proofs::Walks::walks))]
-    pub(crate) fn source_behind(&self, skip: usize) -> Result<u32, usize>
-        ensures { result ≡ number_behind skip (map (λ (x : LeafElement). x.number) (sources_of (adaptor_tree self.now))) }
-    {
-        match self {
-            Tree::Leaf { elem, kind, .. } => {
-                if !kind.is_source() {
-                    Err(skip)
-                } else if skip == 0 {
-                    Ok(*elem)
-                } else {
-                    Err(skip - 1)
-                }
-            }
-            Tree::Series { l, r, .. } | Tree::Parallel { l, r, .. } => match l.source_behind(skip) {
-                Ok(elem) => Ok(elem),
-                Err(left) => r.source_behind(left),
-            },
-        }
-    }
-
     // The multiplier behind `skip` others, a junction before its parts, or how many are still to skip.
     #[tactic(auto, using(crate::proofs::Walks::walks))]
     pub(crate) fn multiplier_behind(&self, skip: usize) -> Result<u32, usize>
@@ -184,6 +162,19 @@ impl Tree {
             Tree::Leaf { elem, kind, .. } => *elem == number && kind.is_reactance(),
             Tree::Series { l, r, .. } | Tree::Parallel { l, r, .. } => {
                 l.has_reactance(number) || r.has_reactance(number)
+            }
+        }
+    }
+
+    // Whether a source has this number.
+    #[tactic(auto, using(crate::proofs::Walks::walks))]
+    pub(crate) fn has_source(&self, number: u32) -> bool
+        ensures { result ≡ has_source (elements_of (adaptor_tree self.now)) number }
+    {
+        match self {
+            Tree::Leaf { elem, kind, .. } => *elem == number && kind.is_source(),
+            Tree::Series { l, r, .. } | Tree::Parallel { l, r, .. } => {
+                l.has_source(number) || r.has_source(number)
             }
         }
     }

@@ -1,7 +1,12 @@
-use Rattle.std.proofs.Common.{refl, arith}
+use Rattle.std.proofs.Common.{refl, arith, [], ◌∷◌}
 use borrow.Author.Differences.{ints}
 use Rattle.std.specs.Prelude.{pos, neg_ℤ}
+use Rattle.wdf_law.specs.declared.outlet.Outlet.{Outlet}
+use Rattle.wdf_law.specs.declared.outlet.Outlet.TheVariants.{Load, Source}
 use Rattle.wdf_law.specs.Elements.{IsCapacitor, IsInductor}
+use Rattle.wdf_law.specs.Step.{IsStep}
+use Rattle.wdf_law.specs.Run.{states, source_values}
+use Rattle.wdf_law.specs.WorkedFrames.{two_sources, two_sources_frame}
 use Rattle.wdf_law.proofs.laws.worked_frames.Goals as goal
 
 capacitor : IsCapacitor (neg_ℤ (pos 3641)) (neg_ℤ (pos 3641)) (pos 1214)
@@ -9,6 +14,20 @@ capacitor = record { trapezoid = λ v j e. omega (arith, ints) }
 
 inductor : IsInductor (pos 3641) (neg_ℤ (pos 3641)) (pos 1214)
 inductor = record { trapezoid = λ v j e. omega (arith, ints) }
+
+second_inductor : IsInductor (neg_ℤ (pos 999)) (pos 999) (neg_ℤ (pos 230))
+second_inductor = record { trapezoid = λ v j e. omega (arith, ints) }
+
+two_sources_step : (outlet : Outlet)
+    → IsStep (two_sources outlet) (states (two_sources outlet) (neg_ℤ (pos 999) ∷ [])) (source_values (two_sources outlet) (pos 777 ∷ neg_ℤ (pos 1001) ∷ [])) two_sources_frame
+two_sources_step outlet = record {
+  root = record { voltages = refl; currents = refl };
+  to_left = refl;
+  to_right = refl;
+  left = record { drives = refl };
+  right = (record { first = refl; second = refl; voltages = refl }, record { first = refl; second = refl; up = refl }, record { drives = refl },
+      (record { first = refl; second = refl; currents = refl }, record { first = refl; second = refl; up = refl }, second_inductor, record { ohm = refl }));
+}
 
 pub returns : goal.returns
 returns c = record {
@@ -56,4 +75,6 @@ returns c = record {
     after = refl;
     wave = refl;
   };
+  source_outlet = record { step = two_sources_step Source; after = refl; wave = refl };
+  load_outlet = record { step = two_sources_step (Load 3); after = refl; wave = refl };
 }

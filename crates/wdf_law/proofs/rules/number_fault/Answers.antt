@@ -13,46 +13,41 @@ use Rattle.wdf_law.proofs.rules.number_fault.Goals as goal
 pub returns-in-Some-double : goal.returns-in-Some-double
 returns-in-Some-double c =
     let xs = numbers_of (adaptor_tree c.args.left.now) ++ numbers_of (adaptor_tree c.args.right.now) in
-    sym (number_fault-double xs c.in-Some-double.elem (sym c.large.ensures ∙ c.in_default.is) (sym c.double.ensures.first ∙ c.in-Some-double.is))
+    record { fault = sym (number_fault-double xs c.in-Some-double.elem (sym c.large.ensures ∙ c.in_default.is) (sym c.double.ensures.first ∙ c.in-Some-double.is)); few = tt }
 
-pub leaf_count-requires : goal.leaf_count-requires
-leaf_count-requires c =
-    let all = counted_leaves (adaptor_tree c.args.left.now) (adaptor_tree c.args.right.now) (sym c.large.ensures ∙ c.in_default.is) (sym c.double.ensures.first ∙ c.in_default-double.is) in
-    omega arith
-
-pub leaf_count-requires-2 : goal.leaf_count-requires-2
-leaf_count-requires-2 c =
-    let all = counted_leaves (adaptor_tree c.args.left.now) (adaptor_tree c.args.right.now) (sym c.large.ensures ∙ c.in_default.is) (sym c.double.ensures.first ∙ c.in_default-double.is) in
-    omega arith
-
-pub overflow_add-count : goal.overflow_add-count
-overflow_add-count c =
-    let all = counted_leaves (adaptor_tree c.args.left.now) (adaptor_tree c.args.right.now) (sym c.large.ensures ∙ c.in_default.is) (sym c.double.ensures.first ∙ c.in_default-double.is) in
-    omega arith
+pub leaves-requires : goal.leaves-requires
+leaves-requires c =
+    counted_leaves (adaptor_tree c.args.left.now) (adaptor_tree c.args.right.now) (sym c.large.ensures ∙ c.in_default.is) (sym c.double.ensures.first ∙ c.in_default-double.is)
 
 pub missing-requires : goal.missing-requires
 missing-requires c =
     let all = counted_leaves (adaptor_tree c.args.left.now) (adaptor_tree c.args.right.now) (sym c.large.ensures ∙ c.in_default.is) (sym c.double.ensures.first ∙ c.in_default-double.is) in
-    omega arith
+    omega (arith, c.leaves.ensures)
 
 pub returns-in-Some-missing : goal.returns-in-Some-missing
 returns-in-Some-missing c =
     let xs = numbers_of (adaptor_tree c.args.left.now) ++ numbers_of (adaptor_tree c.args.right.now) in
-    let n = c.leaf_count.result + c.leaf_count-2.result in
-    let count : n ≡ length xs = omega (arith, length_numbers (adaptor_tree c.args.left.now) (adaptor_tree c.args.right.now)) in
+    let n = c.leaves.result in
+    let count : n ≡ length xs = c.leaves.ensures ∙ sym (length_numbers (adaptor_tree c.args.left.now) (adaptor_tree c.args.right.now)) in
     let marks : c.double.new.marks ≡ marked no_marks xs = rw c.in_default-double.is at c.double.ensures.marks in
     let found : c.missing.result ≡ find (λ (i : ℕ). not (slice_index_or (marked no_marks xs) i false)) (range_with_len 0 n) =
     c.missing.ensures ∙ ap (λ (ms : List Bool). find (λ (i : ℕ). not (slice_index_or ms i false)) (range_with_len 0 n)) marks in
-    sym (number_fault-missing xs n c.missing.result count (sym c.large.ensures ∙ c.in_default.is) (sym c.double.ensures.first ∙ c.in_default-double.is) found
-    ∙ ap (option_map (λ (e : ℕ). MissingElement e)) c.in-Some-missing.is)
+    record {
+      fault = sym (number_fault-missing xs n c.missing.result count (sym c.large.ensures ∙ c.in_default.is) (sym c.double.ensures.first ∙ c.in_default-double.is) found
+          ∙ ap (option_map (λ (e : ℕ). MissingElement e)) c.in-Some-missing.is);
+      few = tt;
+    }
 
 pub returns-in-None : goal.returns-in-None
 returns-in-None c =
     let xs = numbers_of (adaptor_tree c.args.left.now) ++ numbers_of (adaptor_tree c.args.right.now) in
-    let n = c.leaf_count.result + c.leaf_count-2.result in
-    let count : n ≡ length xs = omega (arith, length_numbers (adaptor_tree c.args.left.now) (adaptor_tree c.args.right.now)) in
+    let n = c.leaves.result in
+    let count : n ≡ length xs = c.leaves.ensures ∙ sym (length_numbers (adaptor_tree c.args.left.now) (adaptor_tree c.args.right.now)) in
     let marks : c.double.new.marks ≡ marked no_marks xs = rw c.in_default-double.is at c.double.ensures.marks in
     let found : c.missing.result ≡ find (λ (i : ℕ). not (slice_index_or (marked no_marks xs) i false)) (range_with_len 0 n) =
     c.missing.ensures ∙ ap (λ (ms : List Bool). find (λ (i : ℕ). not (slice_index_or ms i false)) (range_with_len 0 n)) marks in
-    sym (number_fault-missing xs n c.missing.result count (sym c.large.ensures ∙ c.in_default.is) (sym c.double.ensures.first ∙ c.in_default-double.is) found
-    ∙ ap (option_map (λ (e : ℕ). MissingElement e)) c.in-None.is)
+    record {
+      fault = sym (number_fault-missing xs n c.missing.result count (sym c.large.ensures ∙ c.in_default.is) (sym c.double.ensures.first ∙ c.in_default-double.is) found
+          ∙ ap (option_map (λ (e : ℕ). MissingElement e)) c.in-None.is);
+      few = counted_leaves (adaptor_tree c.args.left.now) (adaptor_tree c.args.right.now) (sym c.large.ensures ∙ c.in_default.is) (sym c.double.ensures.first ∙ c.in_default-double.is);
+    }

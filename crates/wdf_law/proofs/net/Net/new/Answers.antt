@@ -1,12 +1,14 @@
 -- Where no rule is broken, the network is one as its type keeps it; else the first that is broken is the refusal.
-use Rattle.std.proofs.Common.{◌≡◌, Result, Ok, Err, None, Some, sym, ap, ◌∙◌}
+use Rattle.std.proofs.Common.{◌≡◌, Result, Ok, Err, None, Some, refl, sym, ap, ◌∙◌}
 use Rattle.std.specs.Prelude.{◌↔◌}
 use Rattle.wdf_law.specs.declared.net_error.NetError.{NetError}
-use Rattle.wdf_law.specs.declared.net_error.NetError.TheVariants.{BadWidth, TooDeep, BadMultiplier, BadElement, DoubleElement, MissingElement, NoSource, DoubleSource, NoOutlet}
+use Rattle.wdf_law.specs.declared.net_error.NetError.TheVariants.{BadWidth, TooDeep, BadMultiplier, BadElement, DoubleElement, MissingElement, NoSource, TooManySources, NoOutlet}
 use Rattle.wdf_law.specs.Network.{Network, network_of}
-use Rattle.wdf_law.specs.Refusal.{refusal, Refuses}
+use Rattle.wdf_law.specs.Network.{IsNetwork}
+use Rattle.wdf_law.specs.RefusalOrder.{refusal}
 use Rattle.wdf_law.proofs.Allowed.{allowed}
-use Rattle.wdf_law.proofs.Refusing.{exactly}
+use Rattle.wdf_law.proofs.Refusing.{Refuses, exactly}
+use Rattle.wdf_law.proofs.Unrefused.{unrefused}
 use Rattle.wdf_law.proofs.net.Net.new.Goals as goal
 
 pub invariant_of-result : goal.invariant_of-result
@@ -20,6 +22,15 @@ at_err n error is e =
 
 at_ok : {T : Type 0} (n : Network) (net : T) → refusal n ≡ None → (e : NetError) → (◌≡◌ {A = Result T NetError} (Ok net) (Err e)) ↔ Refuses n e
 at_ok n net is e = exactly n (Ok net) (λ d h. absurd (cc)) (λ d h. absurd (cc)) e
+
+pub returns-in-Some-clause-accepted : goal.returns-in-Some-clause-accepted
+returns-in-Some-clause-accepted c =
+    let n = network_of c.args.k c.args.m c.args.left c.args.right c.args.outlet in
+    ((λ h. absurd (cc)), (λ rules. let none = unrefused n rules in let some = sym c.refused.ensures ∙ c.in-Some.is in absurd (cc)))
+
+pub returns-in-None-clause-accepted : goal.returns-in-None-clause-accepted
+returns-in-None-clause-accepted c =
+    ((λ h. allowed (network_of c.args.k c.args.m c.args.left c.args.right c.args.outlet) (sym c.refused.ensures ∙ c.in-None.is)), (λ rules. refl))
 
 pub returns-in-Some-clause-bad_width : goal.returns-in-Some-clause-bad_width
 returns-in-Some-clause-bad_width c = at_err (network_of c.args.k c.args.m c.args.left c.args.right c.args.outlet) c.in-Some.error (sym c.refused.ensures ∙ c.in-Some.is) (BadWidth c.args.k)
@@ -63,11 +74,11 @@ returns-in-Some-clause-no_source c = at_err (network_of c.args.k c.args.m c.args
 pub returns-in-None-clause-no_source : goal.returns-in-None-clause-no_source
 returns-in-None-clause-no_source c = at_ok (network_of c.args.k c.args.m c.args.left c.args.right c.args.outlet) _ (sym c.refused.ensures ∙ c.in-None.is) NoSource
 
-pub returns-in-Some-clause-double_source : goal.returns-in-Some-clause-double_source
-returns-in-Some-clause-double_source c = λ e. at_err (network_of c.args.k c.args.m c.args.left c.args.right c.args.outlet) c.in-Some.error (sym c.refused.ensures ∙ c.in-Some.is) (DoubleSource e)
+pub returns-in-Some-clause-too_many_sources : goal.returns-in-Some-clause-too_many_sources
+returns-in-Some-clause-too_many_sources c = λ e. at_err (network_of c.args.k c.args.m c.args.left c.args.right c.args.outlet) c.in-Some.error (sym c.refused.ensures ∙ c.in-Some.is) (TooManySources e)
 
-pub returns-in-None-clause-double_source : goal.returns-in-None-clause-double_source
-returns-in-None-clause-double_source c = λ e. at_ok (network_of c.args.k c.args.m c.args.left c.args.right c.args.outlet) _ (sym c.refused.ensures ∙ c.in-None.is) (DoubleSource e)
+pub returns-in-None-clause-too_many_sources : goal.returns-in-None-clause-too_many_sources
+returns-in-None-clause-too_many_sources c = λ e. at_ok (network_of c.args.k c.args.m c.args.left c.args.right c.args.outlet) _ (sym c.refused.ensures ∙ c.in-None.is) (TooManySources e)
 
 pub returns-in-Some-clause-no_outlet : goal.returns-in-Some-clause-no_outlet
 returns-in-Some-clause-no_outlet c = at_err (network_of c.args.k c.args.m c.args.left c.args.right c.args.outlet) c.in-Some.error (sym c.refused.ensures ∙ c.in-Some.is) NoOutlet
