@@ -2,7 +2,7 @@
 use Rattle.std.proofs.Common.{◌≡◌, ℕ, ◌<◌, List, [], ◌∷◌, length, None, Some, refl, ap, arith, true, false}
 use Rattle.std.specs.List.{slice_get}
 use Rattle.std.specs.Option.{option_map, is_none}
-use Rattle.wdf_law.specs.declared.net.TheConstants.{MAX_SOURCES}
+use Rattle.wdf_law.specs.declared.TheConstants.{MAX_SOURCES}
 use Rattle.wdf_law.specs.declared.net_error.NetError.TheVariants.{NoSource, TooManySources}
 use Rattle.wdf_law.specs.RefusalOrder.{source_fault}
 

@@ -9,8 +9,8 @@ pub mod NetworkCode
 pub mod Outline
 pub mod OutputRule
 pub mod Refusal
-pub mod Reversal
 pub mod RefusalOrder
+pub mod Reversal
 pub mod Run
 pub mod Solved
 pub mod Spans

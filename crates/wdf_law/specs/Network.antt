@@ -4,7 +4,7 @@ use Rattle.std.specs.Prelude.{◌≡◌, ℕ, ◌+◌, ◌^◌, if◌then◌else
 use Rattle.std.specs.List.{range_with_len, list_any}
 use Rattle.wdf_law.specs.declared.kind.Kind.{Kind}
 use Rattle.wdf_law.specs.declared.kind.Kind.TheVariants.{Res, Cap, Ind, Src}
-use Rattle.wdf_law.specs.declared.net.TheConstants.{MAX_SOURCES}
+use Rattle.wdf_law.specs.declared.TheConstants.{MAX_SOURCES}
 use Rattle.wdf_law.specs.declared.outlet.Outlet.{Outlet}
 use Rattle.wdf_law.specs.declared.outlet.Outlet.TheVariants.{Load, Source}
 use Rattle.wdf_law.specs.declared.tree.Tree.{Tree}

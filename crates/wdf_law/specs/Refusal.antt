@@ -2,7 +2,7 @@
 use Rattle.std.specs.Prelude.{◌≡◌, ℕ, ◌≤◌, Bool, true, false, not, ◌&&◌, ◌==◌, nat_le, nat_lt, if◌then◌else◌, List, [], ◌∷◌, length, Option, None, Some}
 use Rattle.std.specs.List.{range_with_len, list_any, find, slice_get}
 use Rattle.std.specs.Option.{option_map}
-use Rattle.wdf_law.specs.declared.net.TheConstants.{MAX_SOURCES}
+use Rattle.wdf_law.specs.declared.TheConstants.{MAX_SOURCES}
 use Rattle.wdf_law.specs.Trees.{depth_of}
 use Rattle.wdf_law.specs.Network.{Network, Adaptor, unit_of, elements, numbers, adaptors, source_numbers, has_outlet}
 

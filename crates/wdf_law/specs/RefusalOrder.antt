@@ -2,7 +2,7 @@
 use Rattle.std.specs.Prelude.{ℕ, Bool, true, false, List, [], ◌∷◌, length, Option, None, Some}
 use Rattle.std.specs.List.{slice_get}
 use Rattle.std.specs.Option.{option_or, option_map}
-use Rattle.wdf_law.specs.declared.net.TheConstants.{MAX_SOURCES}
+use Rattle.wdf_law.specs.declared.TheConstants.{MAX_SOURCES}
 use Rattle.wdf_law.specs.declared.net_error.NetError.{NetError}
 use Rattle.wdf_law.specs.declared.net_error.NetError.TheVariants.{BadWidth, TooDeep, BadMultiplier, BadElement, DoubleElement, MissingElement, NoSource, TooManySources, NoOutlet}
 use Rattle.wdf_law.specs.Network.{Network, unit_of, elements, numbers, adaptors, source_numbers, has_outlet}

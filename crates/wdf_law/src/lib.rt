@@ -19,7 +19,7 @@ mod tree;
 
 pub use connection::Connection;
 pub use kind::Kind;
-pub use net::{MAX_SOURCES, Net};
+pub use net::Net;
 pub use net_error::NetError;
 pub use outlet::Outlet;
 pub use shape::Shape;

@@ -4,14 +4,11 @@ ghost use Rattle.wdf_law.specs.Network.{IsNetwork, Adaptor, network_of, adaptors
 ghost use Rattle.wdf_law.specs.Marks.{number_behind};
 ghost use Rattle.wdf_law.specs.OutputRule.{outlet_element};
 ghost use Rattle.wdf_law.specs.Refusal.{HasBadWidth, IsTooDeep, HasBadMultiplier, HasBadElement, HasDoubleElement, HasMissingElement, HasNoSource, HasTooManySources, HasNoOutlet};
-ghost use Rattle.wdf_law.specs.declared.net.TheConstants.{MAX_SOURCES};
+ghost use Rattle.wdf_law.specs.declared.TheConstants.{MAX_SOURCES};
 
 use crate::rules::{is_source, leaves, refused, source_behind};
 use crate::{NetError, Outlet, Tree};
 use std::marker::Model;
-
-/// The most sources of a network.
-pub const MAX_SOURCES: usize = 8;
 
 /// A quantised network: a left and a right tree of adaptors that are joined at the root. Its
 /// multipliers are counted in units of `2^-k`.
