@@ -1,5 +1,5 @@
 -- The fault of a network's numbers, by what the walks with marks find.
-use Rattle.std.proofs.Common.{◌≡◌, ℕ, ◌+◌, ◌≤◌, false, not, Option, None, Some, List, [], ◌++◌, length, ap, sym, ◌∙◌, subst, arith, slice_index_or, length-append}
+use Rattle.std.proofs.Common.{◌≡◌, ℕ, ◌≤◌, false, not, Option, None, Some, List, [], ◌++◌, length, ap, sym, ◌∙◌, subst, arith, slice_index_or, length-append}
 use Rattle.std.specs.Option.{option_or, option_map}
 use Rattle.std.specs.List.{find, range_with_len}
 use Rattle.std.proofs.lemmas.List.{length-map}

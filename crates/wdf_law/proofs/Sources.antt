@@ -1,5 +1,5 @@
 -- Whether a network's sources are of a good number, by that with the number 0 and that with the number MAX_SOURCES.
-use Rattle.std.proofs.Common.{◌≡◌, ℕ, ◌<◌, List, [], ◌∷◌, length, None, Some, refl, ap, arith, true, false}
+use Rattle.std.proofs.Common.{◌≡◌, ℕ, List, [], ◌∷◌, None, Some, refl, ap, true, false}
 use Rattle.std.specs.List.{slice_get}
 use Rattle.std.specs.Option.{option_map, is_none}
 use Rattle.wdf_law.specs.declared.TheConstants.{MAX_SOURCES}

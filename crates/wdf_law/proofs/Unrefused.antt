@@ -1,17 +1,16 @@
 -- A network as its type keeps it breaks no rule.
-use Rattle.std.proofs.Common.{◌≡◌, ℕ, zero, suc, ◌+◌, ◌<◌, ◌≤◌, Bool, true, false, cond, not, ◌||◌, ◌&&◌, ◌==◌, nat_le, nat_lt, if◌then◌else◌, Option, None, Some, List, [], ◌∷◌, length, map, refl, ap, sym, ◌∙◌, subst, arith}
+use Rattle.std.proofs.Common.{◌≡◌, ℕ, ◌+◌, ◌<◌, ◌≤◌, Bool, true, false, cond, not, ◌||◌, ◌&&◌, ◌==◌, nat_le, nat_lt, if◌then◌else◌, None, Some, List, [], ◌∷◌, length, map, refl, ap, sym, ◌∙◌, subst, arith}
 use Rattle.std.specs.Prelude.{All}
 use Rattle.std.specs.Option.{option_or, option_map}
-use Rattle.std.specs.List.{find, slice_get}
+use Rattle.std.specs.List.{find}
 use Rattle.std.proofs.lemmas.Bool.Decides.{nat_tests}
 use Rattle.std.proofs.lemmas.List.{length-map}
 use Rattle.std.proofs.lemmas.List.Elements.{All-head, All-tail}
 use Rattle.std.proofs.lemmas.Option.{slice_get_past}
 use Rattle.wdf_law.specs.declared.TheConstants.{MAX_SOURCES}
-use Rattle.wdf_law.specs.declared.net_error.NetError.{NetError}
 use Rattle.wdf_law.specs.declared.net_error.NetError.TheVariants.{BadWidth, TooDeep, BadMultiplier, BadElement, DoubleElement, MissingElement, TooManySources, NoOutlet}
 use Rattle.wdf_law.specs.Trees.{LeafElement, depth_of}
-use Rattle.wdf_law.specs.Network.{Network, IsNetwork, Adaptor, unit_of, elements, numbers, adaptors, source_numbers, has_outlet, times_in}
+use Rattle.wdf_law.specs.Network.{Network, IsNetwork, Adaptor, unit_of, elements, numbers, adaptors, source_numbers, times_in}
 use Rattle.wdf_law.specs.Refusal.{is_width, is_shallow, is_out, first_out, first_large, is_among, first_repeated, least_missing}
 use Rattle.wdf_law.specs.RefusalOrder.{unless, number_fault, source_fault, refusal}
 use Rattle.wdf_law.proofs.Ranges.{none_below}
@@ -110,19 +109,19 @@ sources_good (x ∷ xs) some few = ap (option_map (λ (e : ℕ). TooManySources 
 pub unrefused : (n : Network) → IsNetwork n → refusal n ≡ None
 unrefused n rules =
     let width : is_width n ≡ true =
-        let low : nat_le 1 n.k ≡ true = (let k = rules.width.0 in grind (arith, nat_tests)) in
-        let high : nat_le n.k 20 ≡ true = (let k = rules.width.1 in grind (arith, nat_tests)) in
-        λ i. low i && high i in
+    let low : nat_le 1 n.k ≡ true = (let k = rules.width.0 in grind (arith, nat_tests)) in
+    let high : nat_le n.k 20 ≡ true = (let k = rules.width.1 in grind (arith, nat_tests)) in
+    λ i. low i && high i in
     let depth : is_shallow n ≡ true =
-        let left : nat_le (depth_of n.left) 128 ≡ true = (let k = rules.left_depth in grind (arith, nat_tests)) in
-        let right : nat_le (depth_of n.right) 128 ≡ true = (let k = rules.right_depth in grind (arith, nat_tests)) in
-        λ i. left i && right i in
+    let left : nat_le (depth_of n.left) 128 ≡ true = (let k = rules.left_depth in grind (arith, nat_tests)) in
+    let right : nat_le (depth_of n.right) 128 ≡ true = (let k = rules.right_depth in grind (arith, nat_tests)) in
+    λ i. left i && right i in
     let out : first_out (unit_of n) (adaptors n) ≡ None = ap (option_map (λ (a : Adaptor). a.first)) (none_out (unit_of n) (adaptors n) rules.multipliers) in
     let count : length (elements n) ≡ length (numbers n) = omega (arith, length-map {A = LeafElement} {B = ℕ}) in
     let numbers_in = numbers_good (numbers n)
-        (subst (λ (c : ℕ). c ≤ 128) count rules.most)
-        (subst (λ (c : ℕ). All (λ (i : ℕ). i < c) (numbers n)) count rules.below)
-        (λ i h. rules.once i (subst (λ (c : ℕ). i < c) (sym count) h)) in
+    (subst (λ (c : ℕ). c ≤ 128) count rules.most)
+    (subst (λ (c : ℕ). All (λ (i : ℕ). i < c) (numbers n)) count rules.below)
+    (λ i h. rules.once i (subst (λ (c : ℕ). i < c) (sym count) h)) in
     let sources_in = sources_good (source_numbers n) rules.some_source rules.few_sources in
     λ i. option_or (unless (width i) (BadWidth n.k))
     (option_or (unless (depth i) TooDeep)

@@ -25,8 +25,12 @@ two_sources_step outlet = record {
   to_left = refl;
   to_right = refl;
   left = record { drives = refl };
-  right = (record { first = refl; second = refl; voltages = refl }, record { first = refl; second = refl; up = refl }, record { drives = refl },
-      (record { first = refl; second = refl; currents = refl }, record { first = refl; second = refl; up = refl }, second_inductor, record { ohm = refl }));
+  right = (
+    record { first = refl; second = refl; voltages = refl },
+    record { first = refl; second = refl; up = refl },
+    record { drives = refl },
+    (record { first = refl; second = refl; currents = refl }, record { first = refl; second = refl; up = refl }, second_inductor, record { ohm = refl }),
+  );
 }
 
 pub returns : goal.returns

@@ -1,5 +1,5 @@
 -- What the walks with marks find is the first rule of the numbers that is broken.
-use Rattle.std.proofs.Common.{◌≡◌, ◌+◌, ◌++◌, length, sym, ◌∙◌, ap, slice_index_or, not, false, ℕ, List, Bool, arith}
+use Rattle.std.proofs.Common.{◌≡◌, ◌++◌, length, sym, ◌∙◌, ap, slice_index_or, not, false, ℕ, List, Bool, arith}
 use Rattle.std.specs.Option.{option_map}
 use Rattle.wdf_law.specs.declared.net_error.NetError.TheVariants.{MissingElement}
 use Rattle.std.specs.List.{find, range_with_len}

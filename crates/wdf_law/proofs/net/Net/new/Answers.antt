@@ -4,7 +4,6 @@ use Rattle.std.specs.Prelude.{◌↔◌}
 use Rattle.wdf_law.specs.declared.net_error.NetError.{NetError}
 use Rattle.wdf_law.specs.declared.net_error.NetError.TheVariants.{BadWidth, TooDeep, BadMultiplier, BadElement, DoubleElement, MissingElement, NoSource, TooManySources, NoOutlet}
 use Rattle.wdf_law.specs.Network.{Network, network_of}
-use Rattle.wdf_law.specs.Network.{IsNetwork}
 use Rattle.wdf_law.specs.RefusalOrder.{refusal}
 use Rattle.wdf_law.proofs.Allowed.{allowed}
 use Rattle.wdf_law.proofs.Refusing.{Refuses, exactly}
