@@ -2,18 +2,18 @@
 use Rattle.std.proofs.Common.{◌≡◌, ℕ, zero, suc, ◌+◌, ◌<◌, ◌≤◌, Bool, true, false, cond, not, ◌||◌, ◌&&◌, ◌==◌, nat_le, nat_lt, if◌then◌else◌, Option, None, Some, List, [], ◌∷◌, length, map, refl, ap, sym, ◌∙◌, subst, arith, length-append}
 use Rattle.std.specs.Prelude.{All}
 use Rattle.std.specs.Option.{option_or, option_map}
-use Rattle.std.specs.List.{find, range_with_len, slice_get}
+use Rattle.std.specs.List.{find, range_with_len}
 use Rattle.std.proofs.lemmas.Bool.Decides.{nat_tests}
 use Rattle.std.proofs.lemmas.List.{length-map}
 use Rattle.std.proofs.lemmas.List.Elements.{All-nil, All-cons}
 use Rattle.wdf_law.specs.declared.net_error.NetError.{NetError}
 use Rattle.wdf_law.specs.declared.net_error.NetError.TheVariants.{BadWidth, TooDeep, BadMultiplier}
-use Rattle.wdf_law.specs.declared.TheConstants.{MAX_SOURCES}
 use Rattle.wdf_law.specs.Trees.{AdaptorTree, leaf, series, parallel, LeafElement, elements_of, depth_of}
 use Rattle.wdf_law.specs.Network.{Network, IsNetwork, Adaptor, unit_of, elements, numbers, adaptors, source_numbers, times_in}
 use Rattle.wdf_law.specs.Refusal.{is_width, is_shallow, is_out, first_out, first_large, is_among, first_repeated, least_missing}
 use Rattle.wdf_law.specs.RefusalOrder.{unless, number_fault, source_fault, refusal}
 use Rattle.wdf_law.proofs.Pigeonhole.{few, all_below}
+use Rattle.wdf_law.proofs.Sources.{some_source, few_sources}
 
 neither : {A : Type 0} (p q : Option A) → option_or p q ≡ None → (p ≡ None) × (q ≡ None)
 neither None q h = (refl, h)
@@ -155,20 +155,6 @@ are_numbers xs large double missing =
       below = all_below (length xs) xs refl stands;
       once = λ i h. omega (arith, stands i h, split.once i);
     }
-
--- where no element stands at a place, none stands behind it
-pub ended : (xs : List ℕ) (i : ℕ) → slice_get xs i ≡ None → length xs ≤ i
-ended [] i h = omega arith
-ended (x ∷ xs) zero h = absurd (cc)
-ended (x ∷ xs) (suc i) h = omega (arith, ended xs i h)
-
-some_source : (xs : List ℕ) → source_fault xs ≡ None → 1 ≤ length xs
-some_source [] h = absurd (cc)
-some_source (x ∷ xs) h = omega arith
-
-few_sources : (xs : List ℕ) → source_fault xs ≡ None → length xs ≤ MAX_SOURCES
-few_sources [] h = absurd (cc)
-few_sources (x ∷ xs) h = ended (x ∷ xs) MAX_SOURCES (unmapped _ _ h)
 
 -- a tree has a leaf
 some_leaf : (t : AdaptorTree) → 1 ≤ length (elements_of t)

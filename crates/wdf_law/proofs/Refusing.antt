@@ -3,14 +3,13 @@ use Rattle.std.proofs.Common.{◌≡◌, ℕ, ◌≤◌, Bool, true, false, Opti
 use Rattle.std.specs.Prelude.{◌↔◌}
 use Rattle.std.specs.List.{slice_get}
 use Rattle.std.specs.Option.{option_or, option_map}
-use Rattle.std.proofs.lemmas.Option.{slice_get_past}
 use Rattle.wdf_law.specs.declared.TheConstants.{MAX_SOURCES}
 use Rattle.wdf_law.specs.declared.net_error.NetError.{NetError}
 use Rattle.wdf_law.specs.declared.net_error.NetError.TheVariants.{BadWidth, TooDeep, BadMultiplier, BadElement, DoubleElement, MissingElement, NoSource, TooManySources, NoOutlet}
 use Rattle.wdf_law.specs.Network.{Network, unit_of, elements, numbers, adaptors, source_numbers, has_outlet}
 use Rattle.wdf_law.specs.Refusal.{is_width, is_shallow, first_out, first_large, first_repeated, least_missing, HasGoodNumbers, HasBadWidth, IsTooDeep, HasBadMultiplier, HasBadElement, HasDoubleElement, HasMissingElement, HasNoSource, HasTooManySources, HasNoOutlet}
 use Rattle.wdf_law.specs.RefusalOrder.{unless, source_fault, refusal}
-use Rattle.wdf_law.proofs.Allowed.{ended}
+use Rattle.wdf_law.proofs.Sources.{source_fault-many, sources_good, ended}
 
 -- the refusals as one table
 abbrev pub Refuses : Network → NetError → Type 0
@@ -34,14 +33,6 @@ chain k w d m l r x s o =
     (option_or (option_map (λ (e : ℕ). DoubleElement e) r) (option_map (λ (e : ℕ). MissingElement e) x)))
     (option_or s (unless o NoOutlet)))))
 
-many_sources : (xs : List ℕ) (e : ℕ) → slice_get xs MAX_SOURCES ≡ Some e → source_fault xs ≡ Some (TooManySources e)
-many_sources [] e h = absurd (cc)
-many_sources (x ∷ xs) e h = ap (option_map (λ (e : ℕ). TooManySources e)) h
-
-few_sources : (xs : List ℕ) → 1 ≤ length xs → length xs ≤ MAX_SOURCES → source_fault xs ≡ None
-few_sources [] some few = absurd (omega arith)
-few_sources (x ∷ xs) some few = ap (option_map (λ (e : ℕ). TooManySources e)) (slice_get_past (x ∷ xs) MAX_SOURCES few)
-
 -- where the numbers are good, what is said of the sources and the outlet is the refusal
 behind_numbers : (n : Network) → HasGoodNumbers n → (s : Option NetError) (o : Bool) → source_fault (source_numbers n) ≡ s → has_outlet (elements n) n.outlet ≡ o
     → refusal n ≡ option_or s (unless o NoOutlet)
@@ -56,8 +47,8 @@ refused_by n (BadElement e) h = λ i. chain n.k (h.shape.width i) (h.shape.depth
 refused_by n (DoubleElement e) h = λ i. chain n.k (h.shape.width i) (h.shape.depth i) (h.shape.multipliers i) (h.small i) (h.first i) (least_missing (numbers n) (length (numbers n))) (source_fault (source_numbers n)) (has_outlet (elements n) n.outlet)
 refused_by n (MissingElement e) h = λ i. chain n.k (h.shape.width i) (h.shape.depth i) (h.shape.multipliers i) (h.small i) (h.apart i) (h.least i) (source_fault (source_numbers n)) (has_outlet (elements n) n.outlet)
 refused_by n NoSource h = behind_numbers n h.numbers (Some NoSource) (has_outlet (elements n) n.outlet) (ap source_fault h.none) refl
-refused_by n (TooManySources e) h = behind_numbers n h.numbers (Some (TooManySources e)) (has_outlet (elements n) n.outlet) (many_sources (source_numbers n) e h.source) refl
-refused_by n NoOutlet h = behind_numbers n h.numbers None false (few_sources (source_numbers n) h.some h.few) h.outlet
+refused_by n (TooManySources e) h = behind_numbers n h.numbers (Some (TooManySources e)) (has_outlet (elements n) n.outlet) (source_fault-many (source_numbers n) e h.source) refl
+refused_by n NoOutlet h = behind_numbers n h.numbers None false (sources_good (source_numbers n) h.some h.few) h.outlet
 
 some_same : (a b : NetError) → Some a ≡ Some b → a ≡ b
 some_same a b e = cc

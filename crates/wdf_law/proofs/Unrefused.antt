@@ -6,14 +6,13 @@ use Rattle.std.specs.List.{find}
 use Rattle.std.proofs.lemmas.Bool.Decides.{nat_tests}
 use Rattle.std.proofs.lemmas.List.{length-map}
 use Rattle.std.proofs.lemmas.List.Elements.{All-head, All-tail}
-use Rattle.std.proofs.lemmas.Option.{slice_get_past}
-use Rattle.wdf_law.specs.declared.TheConstants.{MAX_SOURCES}
-use Rattle.wdf_law.specs.declared.net_error.NetError.TheVariants.{BadWidth, TooDeep, BadMultiplier, BadElement, DoubleElement, MissingElement, TooManySources, NoOutlet}
+use Rattle.wdf_law.specs.declared.net_error.NetError.TheVariants.{BadWidth, TooDeep, BadMultiplier, BadElement, DoubleElement, MissingElement, NoOutlet}
 use Rattle.wdf_law.specs.Trees.{LeafElement, depth_of}
 use Rattle.wdf_law.specs.Network.{Network, IsNetwork, Adaptor, unit_of, elements, numbers, adaptors, source_numbers, times_in}
 use Rattle.wdf_law.specs.Refusal.{is_width, is_shallow, is_out, first_out, first_large, is_among, first_repeated, least_missing}
-use Rattle.wdf_law.specs.RefusalOrder.{unless, number_fault, source_fault, refusal}
+use Rattle.wdf_law.specs.RefusalOrder.{unless, number_fault, refusal}
 use Rattle.wdf_law.proofs.Ranges.{none_below}
+use Rattle.wdf_law.proofs.Sources.{sources_good}
 
 -- every multiplier is in its range, so none is out of it
 none_out : (q : ℕ) (xs : List Adaptor) → All (λ (m : ℕ). (1 ≤ m) × (m < q)) (map (λ (a : Adaptor). a.multiplier) xs) → find (is_out q) xs ≡ None
@@ -101,10 +100,6 @@ numbers_good xs few below once =
     most : (i : ℕ) (b : Bool) → nat_lt i (length xs) ≡ b → times_in xs i ≤ 1
     most i true e = let one = once i (grind (arith, nat_tests)) in omega arith
     most i false e = let none = nowhere xs (length xs) i below (grind (arith, nat_tests)) in omega arith
-
-sources_good : (xs : List ℕ) → 1 ≤ length xs → length xs ≤ MAX_SOURCES → source_fault xs ≡ None
-sources_good [] some few = absurd (omega arith)
-sources_good (x ∷ xs) some few = ap (option_map (λ (e : ℕ). TooManySources e)) (slice_get_past (x ∷ xs) MAX_SOURCES few)
 
 pub unrefused : (n : Network) → IsNetwork n → refusal n ≡ None
 unrefused n rules =
