@@ -1,11 +1,13 @@
 -- From what the stages of a run did to what its answer says.
-use Rattle.std.proofs.Common.{◌≡◌, ℕ, ◌+◌, ◌-◌, ◌*◌, ◌/◌, ◌%◌, ◌<◌, ◌≤◌, List, [], ◌++◌, length, take, replicate, Option, None, Some, inr, refl, ap, sym, ◌∙◌, subst, arith, append_assoc, append-nil, length-append}
+use Rattle.std.proofs.Common.{◌≡◌, ℕ, ◌+◌, ◌-◌, ◌*◌, ◌/◌, ◌%◌, ◌<◌, ◌≤◌, List, [], ◌++◌, length, take, replicate, Option, None, Some, inl, inr, refl, ap, sym, ◌∙◌, subst, arith, append_assoc, append-nil, length-append}
 use Rattle.std.specs.Io.KnownBytes.{Consumes, IsAtEnd}
 use Rattle.std.proofs.KnownBytes.{Consumes-trans}
 use Rattle.std.proofs.Math.Nat.{mul-mod_left}
 use Rattle.std.proofs.Math.Seq.{take-append-add}
+use Rattle.wdf_io.specs.Moved.{IsFront}
+use Rattle.wdf_io.specs.Told.{Told}
 use Rattle.wdf_wav.specs.declared.head.Head.{Head}
-use Rattle.wdf_wav.specs.Header.{head_bytes_of, data_size, pad_size, block_align}
+use Rattle.wdf_wav.specs.Header.{IsPcmHead, head_bytes_of, data_size, pad_size, block_align}
 use Rattle.wdf_wav.specs.Laws.{SamplesAppend, DataAppends}
 use Rattle.wdf_wav.specs.PcmStream.{samples_of, data_of}
 use Rattle.wdf.specs.declared.netlist.Netlist.{Netlist}
@@ -14,8 +16,7 @@ use Rattle.wdf.specs.declared.status.Status.TheVariants.{Done, Truncated, ReadFa
 use Rattle.wdf.specs.Answer.{WritesLoadWaves, GainsFront, EndsEarly, RunStops, frames_of, held_frames}
 use Rattle.wdf.specs.Circuit.{two_leaves, root_multiplier}
 use Rattle.wdf.specs.Opening.{Opens, WritesWave, StopsWave, EndsWave, WaveStops}
-use Rattle.wdf.specs.Progress.{data_for, IsFront}
-use Rattle.wdf.specs.Told.{Told}
+use Rattle.wdf.specs.Progress.{data_for}
 use Rattle.wdf.specs.TwoLeafWave.{values_of}
 use Rattle.wdf.specs.WaveForm.{IsRunHead}
 use Rattle.wdf.specs.Written.{GivesOutputs, IsResult, IsWritten}
@@ -28,6 +29,16 @@ align-run rate h form = λ i. form.channels i * (form.bits i / 8)
 
 pub size-run : (rate : ℕ) (h : Head) → IsRunHead rate h → data_size h ≡ h.frames * 2
 size-run rate h form = ap (λ (a : ℕ). h.frames * a) (align-run rate h form)
+
+-- a header is written for the head of a run
+valid-run : (rate : ℕ) (h : Head) → rate ≤ 1000000 → IsRunHead rate h → IsPcmHead h
+valid-run rate h few form =
+    let size = size-run rate h form in
+    record {
+      format = record { some_channel = omega (arith, form.channels); few_channels = omega (arith, form.channels); width = inr (inl form.bits) };
+      rate = omega (arith, form.same_rate);
+      size = omega (arith, form.frames);
+    }
 
 -- the header and the output values of some frames are the result for these
 pub is_result : (m rate : ℕ) (h : Head) (body : List ℕ) → m ≤ 16384 → IsRunHead rate h → IsResult (two_leaves m) h body (head_bytes_of h ++ data_for m body)
@@ -52,15 +63,21 @@ pub root_few : (source load : ℕ) → root_multiplier source load ≤ 16384
 root_few source load = omega arith
 
 -- all frames were filtered
-pub writes_load_waves : (n : Netlist) (h : Head) (a b c x y : Option (List ℕ)) → Opens n.rate a b h
+pub writes_load_waves : (n : Netlist) (h : Head) (a b c x y : Option (List ℕ)) → n.rate ≤ 1000000 → Opens n.rate a b h
     → WritesWave (root_multiplier n.source_ohms n.load_ohms) h b c x y → WritesLoadWaves n a c x y
-writes_load_waves n h a b c x y opens wave =
+writes_load_waves n h a b c x y few opens wave =
     let m = root_multiplier n.source_ohms n.load_ohms in
+    let read = head_bytes_of h ++ wave.body in
     record {
       head = h;
       form = opens.form;
       body = wave.body;
-      size = wave.size ∙ sym (size-run n.rate h opens.form);
+      read = read;
+      stream = record {
+        valid = valid-run n.rate h few opens.form;
+        parts = sym (append-nil read);
+        size = wave.size ∙ sym (size-run n.rate h opens.form);
+      };
       input = Consumes-trans a b c (head_bytes_of h) wave.body opens.input wave.input;
       bytes = head_bytes_of h ++ data_for m wave.body;
       wave = is_written m n.rate h wave.body (root_few n.source_ohms n.load_ohms) opens.form;

@@ -3,6 +3,7 @@ use Rattle.std.proofs.Common.{◌≡◌, ℕ, ◌+◌, ◌*◌, ◌/◌, ◌<◌
 use Rattle.std.specs.Prelude.{String}
 use Rattle.std.specs.declared.alloc.Global.{Global}
 use Rattle.wdf_io.specs.Files.{Files, file_of, IsLarger}
+use Rattle.wdf_io.specs.Told.{Told}
 use Rattle.wdf_wav.specs.declared.head.Head.{Head}
 use Rattle.wdf_wav.specs.Header.{head_bytes_of, data_size}
 use Rattle.wdf.specs.declared.netlist.Netlist.{Netlist}
@@ -14,7 +15,6 @@ use Rattle.wdf.specs.Loading.{Holds, Loads}
 use Rattle.wdf.specs.NetlistText.{Stands}
 use Rattle.wdf.specs.Operands.{IsOrder}
 use Rattle.wdf.specs.Plan.{most_bytes}
-use Rattle.wdf.specs.Told.{Told}
 use Rattle.wdf.specs.WaveForm.{IsRunHead}
 use Rattle.wdf.proofs.AnswerLemmas.{align-run, size-run}
 use Rattle.wdf.proofs.HeadLemmas.{frames_told, length-head_bytes_of}
@@ -70,6 +70,11 @@ not-early n count left x y h body rest form size is e =
     let halves : length e.rest / 2 ≡ count = ap (λ (a : ℕ). length e.rest / a) (sym (align-run n.rate e.head e.form)) ∙ e.whole_frames in
     absurd (omega (arith, e.below))
 
+-- the parts of the told input
+told-parts : (files : Option Files) (words : List (String Global)) (left : Option (List ℕ)) (w : IsComplete files words left)
+    → left ≡ Some (head_bytes_of w.head ++ w.body ++ w.rest)
+told-parts files words left w = w.input_told ∙ ap (λ (l : List ℕ). Some l) w.stream.parts
+
 -- nothing but Done, want of memory and a fault of an object is left
 pub complete : (files : Option Files) (words : List (String Global)) (a c x y : Option (List ℕ)) (s : Status) → IsComplete files words a
     → AnswerMeets files words a c x y s → (s ≡ LoadFault → ⊥) → (s ≡ ReadFault → ⊥) → (s ≡ WriteFault → ⊥) → (s ≡ Done) ⊎ (s ≡ NoMemory)
@@ -90,11 +95,11 @@ complete files words a c x y (FileTooLarge word) w meets load read write =
     absurd (omega (arith, w.small))
 complete files words a c x y (Truncated count) w meets load read write =
     let same = netlist-same files words a w meets.netlist meets.loads in
-    absurd (not-early meets.netlist count a x y w.head w.body w.rest (subst (λ (n : Netlist). IsRunHead n.rate w.head) same w.form) w.size w.input_told meets.stop)
+    absurd (not-early meets.netlist count a x y w.head w.body w.rest (subst (λ (n : Netlist). IsRunHead n.rate w.head) same w.form) w.stream.size (told-parts files words a w) meets.stop)
 complete files words a c x y (Unbuilt part) w (inl (inl other, keeps)) load read write = absurd (other.1 w.name w.order)
 complete files words a c x y (Unbuilt part) w (inl (inr other, keeps)) load read write =
     absurd (other.1.none w.netlist (subst (λ (f : List ℕ). Stands f w.netlist) (sym (held-same files words a w other.1.file other.1.holds)) w.stands))
 complete files words a c x y (Unbuilt part) w (inr stops) load read write =
     let same = netlist-same files words a w stops.netlist stops.loads in
-    let none = subst (λ (o : Option (List ℕ)). Told o (λ bytes. (head : Head) (rest : List ℕ) → IsRunHead stops.netlist.rate head → bytes ≡ head_bytes_of head ++ rest → ⊥)) w.input_told stops.stop.1 in
+    let none = subst (λ (o : Option (List ℕ)). Told o (λ bytes. (head : Head) (rest : List ℕ) → IsRunHead stops.netlist.rate head → bytes ≡ head_bytes_of head ++ rest → ⊥)) (told-parts files words a w) stops.stop.1 in
     absurd (none w.head (w.body ++ w.rest) (subst (λ (n : Netlist). IsRunHead n.rate w.head) same w.form) (append_assoc (head_bytes_of w.head) w.body w.rest))

@@ -1,10 +1,13 @@
 -- What each answer of a run says.
-use Rattle.std.specs.Prelude.{◌≡◌, ℕ, ◌*◌, ◌/◌, ◌<◌, ◌⊎◌, min, List, ◌++◌, length, take, Option, String}
+use Rattle.std.specs.Prelude.{◌≡◌, ℕ, ◌*◌, ◌/◌, ◌<◌, ◌⊎◌, min, List, [], ◌++◌, length, take, Option, String}
 use Rattle.std.specs.Io.KnownBytes.{Consumes, Appends, Keeps}
 use Rattle.std.specs.declared.alloc.Global.{Global}
 use Rattle.wdf_io.specs.Files.{Files}
+use Rattle.wdf_io.specs.Moved.{IsFront}
+use Rattle.wdf_io.specs.Told.{Told}
 use Rattle.wdf_wav.specs.declared.head.Head.{Head}
-use Rattle.wdf_wav.specs.Header.{head_bytes_of, data_size, block_align}
+use Rattle.wdf_wav.specs.Header.{head_bytes_of, block_align}
+use Rattle.wdf_wav.specs.PcmStream.{IsPlainStream}
 use Rattle.wdf.specs.declared.netlist.Netlist.{Netlist}
 use Rattle.wdf.specs.declared.status.Status.{Status}
 use Rattle.wdf.specs.declared.status.Status.TheVariants.{Done, Truncated, ReadFault, WriteFault, LoadFault, Missing, FileTooLarge, NoMemory, Unbuilt}
@@ -12,19 +15,18 @@ use Rattle.wdf.specs.Circuit.{network_for}
 use Rattle.wdf.specs.Loading.{Loads, IsOtherForm, LacksFile, IsTooLarge}
 use Rattle.wdf.specs.Opening.{NoHead}
 use Rattle.wdf.specs.Operands.{IsOrder}
-use Rattle.wdf.specs.Progress.{IsFront}
-use Rattle.wdf.specs.Told.{Told}
 use Rattle.wdf.specs.WaveForm.{IsRunHead}
 use Rattle.wdf.specs.Written.{IsResult, IsWritten}
 
--- The input begins with a header of the form and the stated frames, and was read up to what follows them. The
--- output gained the WAV of the load waves of the netlist's network, run from rest on the samples of these frames.
+-- What was read is a wave of the form, and no more than that. The output gained the WAV of the load waves of the
+-- netlist's network, run from rest on the samples of its frames.
 pub record WritesLoadWaves (n : Netlist) (left left' written written' : Option (List ℕ)) : Type 0 where
   pub head : Head
   pub form : IsRunHead n.rate head
   pub body : List ℕ
-  pub size : length body ≡ data_size head
-  pub input : Consumes left left' (head_bytes_of head ++ body)
+  pub read : List ℕ
+  pub stream : IsPlainStream read head body []
+  pub input : Consumes left left' read
   pub bytes : List ℕ
   pub wave : IsWritten (network_for n) head body bytes
   pub output : Appends written written' bytes

@@ -1,9 +1,9 @@
 -- The runs that nothing but an object's fault or want of memory stops.
-use Rattle.std.specs.Prelude.{◌≡◌, ℕ, ◌≤◌, List, ◌++◌, length, Option, Some, String}
+use Rattle.std.specs.Prelude.{◌≡◌, ℕ, ◌≤◌, List, length, Option, Some, String}
 use Rattle.std.specs.declared.alloc.Global.{Global}
 use Rattle.wdf_io.specs.Files.{Files, file_of}
 use Rattle.wdf_wav.specs.declared.head.Head.{Head}
-use Rattle.wdf_wav.specs.Header.{head_bytes_of, data_size}
+use Rattle.wdf_wav.specs.PcmStream.{IsPlainStream}
 use Rattle.wdf.specs.declared.netlist.Netlist.{Netlist}
 use Rattle.wdf.specs.NetlistText.{Stands}
 use Rattle.wdf.specs.Operands.{IsOrder}
@@ -11,7 +11,7 @@ use Rattle.wdf.specs.Plan.{most_bytes}
 use Rattle.wdf.specs.WaveForm.{IsRunHead}
 
 -- The words are of the form, the told file of their name stands for a netlist, and the told input begins with a
--- header of the form and all the frames that it states.
+-- wave of the form.
 pub record IsComplete (files : Option Files) (words : List (String Global)) (left : Option (List ℕ)) : Type 0 where
   pub told : Files
   pub files_told : files ≡ Some told
@@ -25,6 +25,7 @@ pub record IsComplete (files : Option Files) (words : List (String Global)) (lef
   pub head : Head
   pub form : IsRunHead netlist.rate head
   pub body : List ℕ
-  pub size : length body ≡ data_size head
   pub rest : List ℕ
-  pub input_told : left ≡ Some (head_bytes_of head ++ body ++ rest)
+  pub bytes : List ℕ
+  pub stream : IsPlainStream bytes head body rest
+  pub input_told : left ≡ Some bytes

@@ -12,7 +12,6 @@ pub mod PortRatio
 pub mod Progress
 pub mod StatusCode
 pub mod StepLaw
-pub mod Told
 pub mod TwoLeafWave
 pub mod WaveForm
 pub mod Written

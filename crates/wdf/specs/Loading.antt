@@ -2,13 +2,13 @@
 use Rattle.std.specs.Prelude.{◌≡◌, ℕ, ◌≤◌, ◌⊎◌, List, length, Option, Some, None, String, ⊤}
 use Rattle.std.specs.declared.alloc.Global.{Global}
 use Rattle.wdf_io.specs.Files.{Files, file_of, IsLarger}
+use Rattle.wdf_io.specs.Told.{Told}
 use Rattle.wdf.specs.declared.netlist.Netlist.{Netlist}
 use Rattle.wdf.specs.declared.status.Status.{Status}
 use Rattle.wdf.specs.declared.status.Status.TheVariants.{Done, Truncated, ReadFault, WriteFault, LoadFault, Missing, FileTooLarge, NoMemory, Unbuilt}
 use Rattle.wdf.specs.NetlistText.{Stands}
 use Rattle.wdf.specs.Operands.{IsOrder}
 use Rattle.wdf.specs.Plan.{most_bytes}
-use Rattle.wdf.specs.Told.{Told}
 
 -- the file of the words' name, where the shelf tells its files
 pub record Holds (files : Option Files) (words : List (String Global)) (file : List ℕ) : Type 0 where

@@ -1,14 +1,14 @@
 -- From the input to its head, and from the head to the frames.
 use Rattle.std.specs.Prelude.{◌≡◌, ℕ, ◌*◌, ◌<◌, ◌≤◌, List, ◌++◌, length, Option}
 use Rattle.std.specs.Io.KnownBytes.{Consumes, Appends, IsAtEnd}
-use Rattle.wdf_io.specs.Moved.{ConsumesAtMost}
+use Rattle.wdf_io.specs.Moved.{ConsumesAtMost, IsFront}
+use Rattle.wdf_io.specs.Told.{Told}
 use Rattle.wdf_wav.specs.declared.head.Head.{Head}
 use Rattle.wdf_wav.specs.Header.{head_bytes_of}
 use Rattle.wdf.specs.declared.status.Status.{Status}
 use Rattle.wdf.specs.declared.status.Status.TheVariants.{Done, Truncated, ReadFault, WriteFault, LoadFault, Missing, FileTooLarge, NoMemory, Unbuilt}
 use Rattle.wdf.specs.WaveForm.{IsRunHead}
-use Rattle.wdf.specs.Progress.{data_for, IsFront}
-use Rattle.wdf.specs.Told.{Told}
+use Rattle.wdf.specs.Progress.{data_for}
 
 -- the input begins with a head that is run at this rate, and that was read
 pub record Opens (rate : ℕ) (left left' : Option (List ℕ)) (head : Head) : Type 0 where

@@ -1,6 +1,7 @@
 -- How far the frames of a run have come, over mono samples of 16 bits. A frame is 2 bytes.
 use Rattle.std.specs.Prelude.{◌≡◌, ℕ, ◌*◌, ◌<◌, ◌≤◌, List, ◌++◌, length, Option}
 use Rattle.std.specs.Io.KnownBytes.{Consumes, Appends, IsAtEnd}
+use Rattle.wdf_io.specs.Moved.{IsFront}
 use Rattle.wdf_wav.specs.PcmStream.{samples_of, data_of}
 use Rattle.wdf.specs.TwoLeafWave.{values_of}
 use Rattle.wdf.specs.declared.status.Status.{Status}
@@ -16,11 +17,6 @@ pub record Filters (m count : ℕ) (left left' written written' : Option (List �
   pub size : length body ≡ count * 2
   pub input : Consumes left left' body
   pub output : Appends written written' (data_for m body)
-
--- xs stand at the front of ys
-pub record IsFront (xs ys : List ℕ) : Type 0 where
-  pub behind : List ℕ
-  pub whole : ys ≡ xs ++ behind
 
 -- some whole frames were read, and part of one more; the front of their output values was written
 pub record StopsWithin (m frames : ℕ) (left left' written written' : Option (List ℕ)) : Type 0 where

@@ -1,8 +1,8 @@
 // The network of a source and a load, and what a sample becomes in it.
 ghost use Rattle.std.specs.Prelude.{◌≡◌, ◌+◌, ◌-◌, ◌*◌, ◌^◌, ◌<◌, ◌≤◌, ◌≤ℤ◌, pos, ◌-ℤ◌, ◌*ℤ◌, unsigned_abs};
 ghost use Rattle.std.specs.Int.{int_max, int_min};
+ghost use Rattle.wdf_algebra.specs.Samples.{IsSampleValue, IsSampleWidth};
 ghost use Rattle.wdf_law.specs.OutputRule.{output_of};
-ghost use Rattle.wdf_wav.specs.SampleCoding.{IsSampleValue, IsSampleWidth};
 ghost use Rattle.wdf.specs.Circuit.{two_leaves, network_for};
 ghost use Rattle.wdf.specs.NetlistText.{IsInRange};
 ghost use Rattle.wdf.specs.StepLaw.{IsLoadWave};

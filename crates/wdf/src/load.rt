@@ -2,8 +2,8 @@
 ghost use Rattle.std.specs.Prelude.{◌≡◌, ◌≤◌, ℕ, vec_len, IfOk, IfErr, IsErrOf, OnErr};
 ghost use Rattle.wdf_io.specs.Causes.{Rose};
 ghost use Rattle.wdf_io.specs.Files.{file_of};
+ghost use Rattle.wdf_io.specs.Told.{Told};
 ghost use Rattle.wdf.specs.Loading.{Loads, LoadRefuses, TextRefuses};
-ghost use Rattle.wdf.specs.Told.{Told};
 
 use crate::netlist::{Netlist, read_netlist};
 use crate::operands::netlist_name;

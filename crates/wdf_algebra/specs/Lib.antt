@@ -1,3 +1,4 @@
 pub mod JunctionValues
+pub mod Samples
 pub mod Squares
 pub mod Truncation

@@ -1,6 +1,6 @@
 -- A buffer `xs` whose part of k bytes from `at` on now holds ys, of which the first n are new.
-use Rattle.std.proofs.Common.{◌≡◌, ℕ, ◌+◌, ◌≤◌, List, ◌++◌, length, take, drop, sym, ap, ◌∙◌, arith, length-take-le, take-append-drop, drop_at}
-use Rattle.std.proofs.lemmas.List.{take-append-le, drop-append-le, drop-drop}
+use Rattle.std.proofs.Common.{◌≡◌, ℕ, ◌+◌, ◌≤◌, List, ◌++◌, length, take, drop, ap, ◌∙◌, arith, length-take-le, drop_at}
+use Rattle.std.proofs.lemmas.List.{take-append-le}
 use Rattle.std.proofs.lemmas.Slice.{take-put_mid_below}
 use borrow.Rule.Slice.PartMut.{put_mid, post_of}
 use lib.Seq.{take-add}
@@ -16,17 +16,3 @@ take-put_mid_filled at k n xs ys within fits =
     ∙ ap (λ l. take at (put_mid at k xs ys) ++ take n l) (drop-put_mid_at at k xs ys within)
     ∙ ap (λ l. take at (put_mid at k xs ys) ++ l) (take-append-le n ys (post_of at k xs) fits)
     ∙ ap (λ l. l ++ take n ys) (take-put_mid_below at k xs ys at (omega arith) within)
-
--- the rest is as it was
-pub drop-put_mid_filled : (at k n : ℕ) (xs ys : List ℕ) → at ≤ length xs → n ≤ length ys → length ys ≡ length (take k (drop at xs))
-    → drop n ys ≡ drop n (take k (drop at xs))
-    → drop (at + n) (put_mid at k xs ys) ≡ drop (at + n) xs
-drop-put_mid_filled at k n xs ys within fits same rest =
-    let after = drop at xs in
-    sym (drop-drop n at (put_mid at k xs ys))
-    ∙ ap (drop n) (drop-put_mid_at at k xs ys within)
-    ∙ drop-append-le n ys (drop k after) fits
-    ∙ ap (λ l. l ++ drop k after) rest
-    ∙ sym (drop-append-le n (take k after) (drop k after) (omega arith))
-    ∙ ap (drop n) (take-append-drop k after)
-    ∙ drop-drop n at xs

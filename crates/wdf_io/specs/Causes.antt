@@ -1,5 +1,7 @@
 -- The count of an object's faults, and the answers that have to have one as their cause.
-use Rattle.std.specs.Prelude.{◌≡◌, ℕ, ◌+◌, ◌-◌, ◌^◌, ◌<◌, ◌≤◌, min, List, length, Result, OnErr, IfOk, is_err, if◌then◌else◌}
+use Rattle.std.specs.Prelude.{◌≡◌, ℕ, ◌+◌, ◌-◌, ◌^◌, ◌<◌, ◌≤◌, min, List, length, Result, OnErr, IfOk, IsErrOf, is_err, if◌then◌else◌}
+use Rattle.wdf_io.specs.declared.load_error.LoadError.{LoadError}
+use Rattle.wdf_io.specs.declared.load_error.LoadError.TheVariants.{Failed}
 
 -- the count after n, which stands still at 2^64 - 1
 abbrev pub next_count : ℕ → ℕ
@@ -19,6 +21,11 @@ pub record WriteHasCause {E : Type 0} (before now : ℕ) (result : Result ℕ E)
   pub later : before ≤ now
   pub failed : OnErr result (Rose before now)
   pub stuck : IfOk result (λ n. n ≡ 0 → 0 < length piece → Rose before now)
+
+-- a load may also be refused by what the files are, whatever the count did
+pub record LoadHasCause {T : Type 0} (before now : ℕ) (result : Result T LoadError) : Type 0 where
+  pub later : before ≤ now
+  pub failed : IsErrOf result Failed → Rose before now
 
 -- the count rises by one at each failure, and at nothing else
 abbrev pub CountsFailures : {T E : Type 0} → ℕ → ℕ → Result T E → Type 0

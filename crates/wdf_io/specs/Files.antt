@@ -27,8 +27,3 @@ LoadMeets fs name limit (Err Missing) = file_of fs name ≡ None
 LoadMeets fs name limit (Err TooLarge) = IsLarger (file_of fs name) limit
 LoadMeets fs name limit (Err Failed) = ⊤
 LoadMeets fs name limit (Err NoMemory) = ⊤
-
--- the same where the files are told, and nothing where they are not
-abbrev pub LoadMeetsTold : Option Files → List ℕ → ℕ → Result (Vec ℕ Global) LoadError → Type 0
-LoadMeetsTold None name limit result = ⊤
-LoadMeetsTold (Some fs) name limit result = LoadMeets fs name limit result

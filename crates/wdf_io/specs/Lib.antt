@@ -10,3 +10,4 @@ pub mod StdSink
 pub mod StdSource
 pub mod SureShelf
 pub mod SureSource
+pub mod Told

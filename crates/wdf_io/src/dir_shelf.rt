@@ -34,10 +34,11 @@ impl<'a, R: Files> DirShelf<'a, R> {
 }
 
 impl<R: Files> Shelf for DirShelf<'_, R> {
-    ghost use Rattle.std.specs.Prelude.{◌≡◌, ◌≤◌, IfOk, IsErrOf, vec_len};
-    ghost use Rattle.wdf_io.specs.Causes.{Rose, CountsFailures};
-    ghost use Rattle.wdf_io.specs.Files.{LoadMeetsTold};
+    ghost use Rattle.std.specs.Prelude.{◌≡◌, ◌≤◌, IfOk, vec_len};
+    ghost use Rattle.wdf_io.specs.Causes.{LoadHasCause, CountsFailures};
     ghost use Rattle.wdf_io.specs.DirShelf.{dir_faults, not_told};
+    ghost use Rattle.wdf_io.specs.Files.{LoadMeets};
+    ghost use Rattle.wdf_io.specs.Told.{Told};
 
     ghost files = { λ _. not_told };
 
@@ -50,11 +51,9 @@ impl<R: Files> Shelf for DirShelf<'_, R> {
     /// The count rises at each of these, and at `NoMemory`.
     fn load(&mut self, alloc: Global, name: &str, limit: usize) -> Result<Vec<u8>, LoadError>
         ensures bound { IfOk result (λ v. vec_len v ≤ limit) }
-        ensures answer { LoadMeetsTold not_told name.now limit result }
+        ensures answer { Told not_told (λ fs. LoadMeets fs name.now limit result) }
         ensures same { not_told ≡ not_told }
-        ensures later { dir_faults self.old ≤ dir_faults self.new }
-        ensures failed { IsErrOf result LoadError.Failed
-            → Rose (dir_faults self.old) (dir_faults self.new) }
+        ensures cause { LoadHasCause (dir_faults self.old) (dir_faults self.new) result }
 
         ensures count { CountsFailures (dir_faults self.old) (dir_faults self.new) result }
     {

@@ -32,7 +32,7 @@ impl MemShelf {
 impl Shelf for MemShelf {
     ghost use Rattle.std.specs.Prelude.{◌≡◌, ◌≤◌, ◌↔◌, IfOk, IsErrOf, Some, vec_len};
     ghost use Rattle.wdf_io.specs.Calls.{FailsNext};
-    ghost use Rattle.wdf_io.specs.Causes.{Rose};
+    ghost use Rattle.wdf_io.specs.Causes.{LoadHasCause};
     ghost use Rattle.wdf_io.specs.Files.{LoadMeets};
     ghost use Rattle.wdf_io.specs.MemShelf.{shelf_state, after_load};
 
@@ -47,9 +47,8 @@ impl Shelf for MemShelf {
         ensures bound { IfOk result (λ v. vec_len v ≤ limit) }
         ensures answer { LoadMeets (shelf_state self.old).files name.now limit result }
         ensures same { (shelf_state self.new).files ≡ (shelf_state self.old).files }
-        ensures later { (shelf_state self.old).calls.faults ≤ (shelf_state self.new).calls.faults }
-        ensures failed { IsErrOf result LoadError.Failed
-            → Rose (shelf_state self.old).calls.faults (shelf_state self.new).calls.faults }
+        ensures cause { let old = shelf_state self.old in let new = shelf_state self.new in
+            LoadHasCause old.calls.faults new.calls.faults result }
 
         ensures failing { IsErrOf result LoadError.Failed ↔ FailsNext (shelf_state self.old).calls }
         ensures after { shelf_state self.new ≡ after_load (shelf_state self.old) result }

@@ -1,7 +1,8 @@
-ghost use Rattle.std.specs.Prelude.{◌≡◌, ◌^◌, ◌<◌, ◌≤◌, ℕ, IfOk, IsErrOf, vec_len};
+ghost use Rattle.std.specs.Prelude.{◌≡◌, ◌^◌, ◌<◌, ◌≤◌, ℕ, IfOk, vec_len};
 ghost use Rattle.std.specs.declared.option.Option.{Option};
-ghost use Rattle.wdf_io.specs.Causes.{Rose};
-ghost use Rattle.wdf_io.specs.Files.{Files, LoadMeetsTold};
+ghost use Rattle.wdf_io.specs.Causes.{LoadHasCause};
+ghost use Rattle.wdf_io.specs.Files.{Files, LoadMeets};
+ghost use Rattle.wdf_io.specs.Told.{Told};
 
 use crate::LoadError;
 use std::alloc::Global;
@@ -23,11 +24,9 @@ pub trait Shelf {
     /// holds more than `limit` bytes. `NoMemory` where there is no memory for the bytes.
     fn load(&mut self, alloc: Global, name: &str, limit: usize) -> Result<Vec<u8>, LoadError>
         ensures bound { IfOk result (λ v. vec_len v ≤ limit) }
-        ensures answer { LoadMeetsTold (files self.old) name.now limit result }
+        ensures answer { Told (files self.old) (λ fs. LoadMeets fs name.now limit result) }
         ensures same { files self.new ≡ files self.old }
-        ensures later { faults self.old ≤ faults self.new }
-        ensures failed { IsErrOf result LoadError.Failed
-            → Rose (faults self.old) (faults self.new) };
+        ensures cause { LoadHasCause (faults self.old) (faults self.new) result };
 
     /// The count is a number of 64 bits.
     ghost counted: { (shelf : Self) → faults shelf < 2 ^ 64 };

@@ -22,10 +22,10 @@ impl SureShelf {
 
 impl Shelf for SureShelf {
     ghost use Rattle.std.specs.Prelude.{◌≡◌, ◌≤◌, IfOk, IsErrOf, Some, vec_len};
-    ghost use Rattle.wdf_io.specs.Causes.{Rose};
+    ghost use Rattle.std.proofs.Common.{rules};
+    ghost use Rattle.wdf_io.specs.Causes.{LoadHasCause};
     ghost use Rattle.wdf_io.specs.Files.{LoadMeets};
     ghost use Rattle.wdf_io.specs.SureShelf.{sure_files};
-    ghost use Rattle.std.proofs.Common.{rules};
 
     ghost files = { λ shelf. Some (sure_files shelf) };
 
@@ -38,8 +38,7 @@ impl Shelf for SureShelf {
         ensures bound { IfOk result (λ v. vec_len v ≤ limit) }
         ensures answer { LoadMeets (sure_files self.old) name.now limit result }
         ensures same { sure_files self.new ≡ sure_files self.old }
-        ensures later { 0 ≤ 0 }
-        ensures failed { IsErrOf result LoadError.Failed → Rose 0 0 }
+        ensures cause { LoadHasCause 0 0 result }
 
         ensures sure { ¬ IsErrOf result LoadError.Failed }
     {

@@ -11,12 +11,12 @@ fn takes(rt: &impl Abort, source: &mut impl Source, buf: &mut [u8], want: Result
     assert!(rt; take_exact(source, buf) == want);
 }
 
-// Eight bytes are read six at a time: the second buffer is short, and keeps its rest.
+// Eight bytes are read six at a time: the second buffer is short.
 fn reads_text(rt: &impl Abort, source: &mut impl Source) {
     let mut buf = [0; 6];
-    for (count, bytes) in [(6, b"abcdef"), (2, b"ghcdef"), (0, b"ghcdef")] {
-        takes(rt, source, &mut buf, Ok(count));
-        holds(rt, &buf, bytes);
+    for bytes in [b"abcdef".as_slice(), b"gh".as_slice(), b"".as_slice()] {
+        takes(rt, source, &mut buf, Ok(bytes.len()));
+        assert!(rt; buf.starts_with(bytes));
     }
 }
 

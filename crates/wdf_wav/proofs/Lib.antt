@@ -1,4 +1,3 @@
 mod FrameBlockLemmas
-mod HeaderLemmas
 mod PcmStreamLemmas
 mod SampleLemmas

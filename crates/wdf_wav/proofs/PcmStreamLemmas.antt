@@ -1,15 +1,13 @@
 -- The samples in the bytes of a wave's data.
-use Rattle.std.proofs.Common.{◌≡◌, ℕ, zero, suc, ◌+◌, ◌*◌, ◌/◌, ◌%◌, ◌<◌, ◌≤◌, List, [], ◌∷◌, ◌++◌, length, map, take, drop, get_or, ℤ, pos, refl, sym, ap, ◌∙◌, arith}
-use Rattle.std.specs.List.{All}
-use Rattle.std.proofs.Math.Nat.{div_self, le-div_iff_mul-le, mod_self, mul-add-div_right, mul-le-mul_right, zero-div}
-use Rattle.std.proofs.lemmas.List.Elements.{All-drop, All-take}
-use Rattle.std.proofs.lemmas.List.{map-append, length-map, length-append, length-drop, length-take-le, nil_from_length, take-append-le, drop-append-le, take_all, take-append-drop, drop-drop, get_or-map}
+use Rattle.std.proofs.Common.{◌≡◌, ℕ, zero, suc, ◌+◌, ◌*◌, ◌/◌, ◌%◌, ◌<◌, ◌≤◌, List, [], ◌∷◌, ◌++◌, length, map, take, drop, get_or, ℤ, pos, refl, ap, ◌∙◌, arith}
+use Rattle.std.proofs.Math.Nat.{div_self, le-div_iff_mul-le, mul-add-div_right, mul-le-mul_right}
+use Rattle.std.proofs.lemmas.List.{map-append, length-map, length-append, length-drop, nil_from_length, take-append-le, drop-append-le, take_all, drop-drop, get_or-map}
+use Rattle.wdf_algebra.specs.Samples.{IsSampleWidth}
 use Rattle.wdf_wav.specs.declared.head.Head.{Head}
 use Rattle.wdf_wav.specs.Header.{IsFrameFormat, block_align}
 use Rattle.wdf_wav.specs.PcmStream.{data_of, pieces, sample_at, samples_of}
-use Rattle.wdf_wav.specs.SampleCoding.{IsSampleWidth, IsSampleValue, sample_coding, sample_value}
-use Rattle.wdf_wav.specs.Laws.{AreBytes}
-use Rattle.wdf_wav.proofs.SampleLemmas.{length-sample_coding, sample_value-sample_coding, sample_coding-sample_value}
+use Rattle.wdf_wav.specs.SampleCoding.{sample_coding, sample_value}
+use Rattle.wdf_wav.proofs.SampleLemmas.{length-sample_coding}
 
 -- the pieces of the front, and then those of the rest
 pieces-append : {X : Type 0} (count more size : ℕ) (xs ys : List X) → length xs ≡ count * size
@@ -70,43 +68,6 @@ length-data_of bits [] = omega arith
 length-data_of bits (z ∷ zs) =
     let rest = length-data_of bits zs in
     omega (arith, length-append (sample_coding bits z) (data_of bits zs), length-sample_coding bits z)
-
--- the coding of samples is read as those samples
-pub samples_of-data_of : (bits : ℕ) (samples : List ℤ) → IsSampleWidth bits → All (IsSampleValue bits) samples → samples_of bits (data_of bits samples) ≡ samples
-samples_of-data_of bits [] w each =
-    let none : 0 / (bits / 8) ≡ 0 = zero-div (bits / 8) in
-    rw none refl
-samples_of-data_of bits (z ∷ zs) w each =
-    let some = sample_size-pos bits w in
-    let coding = sample_coding bits z in
-    let long : length coding ≡ bits / 8 = length-sample_coding bits z in
-    let whole : length coding % (bits / 8) ≡ 0 = ap (λ (n : ℕ). n % (bits / 8)) long ∙ mod_self (bits / 8) in
-    let rest = samples_of-data_of bits zs w (λ k d h. each (suc k) d (omega arith)) in
-    samples_of-append bits coding (data_of bits zs) w whole
-    ∙ ap (λ (l : List ℤ). l ++ samples_of bits (data_of bits zs)) (samples_of-sample bits coding w long)
-    ∙ λ i. sample_value-sample_coding bits z w (each 0 z (omega arith)) i ∷ rest i
-
--- the bytes of whole samples are the coding of what is read in them
-data_of-pieces : (bits count : ℕ) (body : List ℕ) → IsSampleWidth bits → length body ≡ count * (bits / 8) → AreBytes body
-    → data_of bits (map (sample_value bits) (pieces count (bits / 8) body)) ≡ body
-data_of-pieces bits zero body w exact small = sym (nil_from_length body (omega arith))
-data_of-pieces bits (suc count) body w exact small =
-    let size = bits / 8 in
-    let first = take size body in
-    let others = drop size body in
-    let inside : size ≤ length body = omega arith in
-    let long : length first ≡ size = length-take-le size body inside in
-    let left : length others ≡ count * size = simp length-drop (omega arith) in
-    let first_small : AreBytes first = All-take (λ b. b < 256) size body small in
-    let others_small : AreBytes others = All-drop (λ b. b < 256) size body small in
-    let head = sample_coding-sample_value bits first w long first_small in
-    let rest = data_of-pieces bits count others w left others_small in
-    (λ i. head i ++ rest i) ∙ take-append-drop size body
-
-pub data_of-samples_of : (bits : ℕ) (body : List ℕ) → IsSampleWidth bits → length body % (bits / 8) ≡ 0 → AreBytes body → data_of bits (samples_of bits body) ≡ body
-data_of-samples_of bits body w whole small =
-    let some : 0 < bits / 8 = sample_size-pos bits w in
-    data_of-pieces bits (length body / (bits / 8)) body w (omega arith) small
 
 -- the piece of a number
 get_or-pieces : {X : Type 0} (count size k : ℕ) (xs : List X) (d : List X) → k < count → get_or (pieces count size xs) k d ≡ take size (drop (k * size) xs)

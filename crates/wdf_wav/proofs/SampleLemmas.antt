@@ -1,13 +1,15 @@
 -- The coding of samples, and the way back.
-use Rattle.std.proofs.Common.{◌≡◌, ℕ, zero, suc, ◌+◌, ◌*◌, ◌/◌, ◌%◌, ◌^◌, ◌<◌, List, [], ◌∷◌, ◌++◌, length, slice_index, ℤ, refl, sym, ap, subst, ◌∙◌, append-nil, arith}
+use Rattle.std.proofs.Common.{◌≡◌, ℕ, zero, suc, ◌+◌, ◌*◌, ◌/◌, ◌%◌, ◌^◌, ◌<◌, List, [], ◌∷◌, ◌++◌, length, slice_index, get_or, Fits, w8, ℤ, refl, sym, ap, subst, ◌∙◌, append-nil, arith}
 use Rattle.std.proofs.lemmas.Int.{ints}
+use Rattle.std.proofs.lemmas.List.{get_or_default}
 use Rattle.std.proofs.lemmas.Bool.Decides.{nat_tests}
 use Rattle.std.proofs.Math.Nat.{div-div-eq-div-mul, pow-succ'}
 use Rattle.std.specs.Int.{bytes_low_first}
 use Rattle.std.specs.List.{All}
 use Rattle.byteorder.specs.Endian.{little_from, little_bytes, little_number}
 use Rattle.byteorder.specs.Numbers.{little_from-cons, little_from-lt, little_number-reads_back, length-bytes_low_first}
-use Rattle.wdf_wav.specs.SampleCoding.{IsSampleWidth, IsSampleValue, value_of_code, code_of_value, sample_value, sample_coding}
+use Rattle.wdf_algebra.specs.Samples.{IsSampleValue, IsSampleWidth}
+use Rattle.wdf_wav.specs.SampleCoding.{value_of_code, code_of_value, sample_value, sample_coding}
 
 -- a value's number stands for that value
 value_of_code-code_of_value : (bits : ℕ) (z : ℤ) → IsSampleWidth bits → IsSampleValue bits z → value_of_code bits (code_of_value bits z) ≡ z
@@ -52,7 +54,7 @@ little_number-lt : (n : ℕ) (bytes : List ℕ) → All (λ b. b < 256) bytes �
 little_number-lt n bytes small = little_from-lt 0 n bytes (places_below bytes small)
 
 -- what is coded is read as the value that it was
-pub sample_value-sample_coding : (bits : ℕ) (z : ℤ) → IsSampleWidth bits → IsSampleValue bits z → sample_value bits (sample_coding bits z) ≡ z
+sample_value-sample_coding : (bits : ℕ) (z : ℤ) → IsSampleWidth bits → IsSampleValue bits z → sample_value bits (sample_coding bits z) ≡ z
 unfolding sample_value sample_coding
 sample_value-sample_coding bits z w h =
     let code = code_of_value bits z in
@@ -60,7 +62,7 @@ sample_value-sample_coding bits z w h =
     ap (value_of_code bits) (ap (little_number (bits / 8)) (sym (append-nil (sample_coding bits z))) ∙ back) ∙ value_of_code-code_of_value bits z w h
 
 -- bytes are the coding of the value that is read in them
-pub sample_coding-sample_value : (bits : ℕ) (bytes : List ℕ) → IsSampleWidth bits → length bytes ≡ bits / 8 → All (λ b. b < 256) bytes → sample_coding bits (sample_value bits bytes) ≡ bytes
+sample_coding-sample_value : (bits : ℕ) (bytes : List ℕ) → IsSampleWidth bits → length bytes ≡ bits / 8 → All (λ b. b < 256) bytes → sample_coding bits (sample_value bits bytes) ≡ bytes
 unfolding sample_value sample_coding
 sample_coding-sample_value bits bytes w whole small =
     let n = little_number (bits / 8) bytes in
@@ -71,3 +73,14 @@ sample_coding-sample_value bits bytes w whole small =
 pub length-sample_coding : (bits : ℕ) (z : ℤ) → length (sample_coding bits z) ≡ bits / 8
 unfolding sample_coding
 length-sample_coding bits z = length-bytes_low_first 0 (bits / 8) (code_of_value bits z)
+
+-- the value that is read in bytes has them as its coding
+pub coded_reading : (bits : ℕ) (bytes : List ℕ) (value : ℤ) → IsSampleWidth bits → length bytes ≡ bits / 8 → ((k : ℕ) → Fits w8 (get_or bytes k 0))
+    → value ≡ sample_value bits bytes → sample_coding bits value ≡ bytes
+coded_reading bits bytes value w whole fits same =
+    let small : All (λ b. b < 256) bytes = λ k d h. let f = fits k in rw (get_or_default bytes k d 0 h) (omega (arith, f.fits)) in
+    ap (sample_coding bits) same ∙ sample_coding-sample_value bits bytes w whole small
+
+-- bytes that are the coding of a value are read as it
+pub read_coding : (bits : ℕ) (bytes : List ℕ) (value : ℤ) → IsSampleWidth bits → IsSampleValue bits value → bytes ≡ sample_coding bits value → sample_value bits bytes ≡ value
+read_coding bits bytes value w fits same = ap (sample_value bits) same ∙ sample_value-sample_coding bits value w fits

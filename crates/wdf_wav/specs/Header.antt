@@ -1,8 +1,8 @@
 -- The header of an uncompressed PCM wave, and the sizes that stand in it.
-use Rattle.std.specs.Prelude.{ℕ, ◌+◌, ◌*◌, ◌/◌, ◌%◌, ◌^◌, ◌<◌, ◌≤◌, List, ◌++◌, codes}
+use Rattle.std.specs.Prelude.{ℕ, ◌+◌, ◌*◌, ◌/◌, ◌%◌, ◌<◌, ◌≤◌, List, ◌++◌, codes}
 use Rattle.byteorder.specs.Endian.{little_bytes}
+use Rattle.wdf_algebra.specs.Samples.{IsSampleWidth}
 use Rattle.wdf_wav.specs.declared.head.Head.{Head}
-use Rattle.wdf_wav.specs.SampleCoding.{IsSampleWidth}
 
 -- the frames that are read and written: one to eight channels of samples of 8, 16, 24 or 32 bits
 pub record IsFrameFormat (head : Head) : Type 0 where
@@ -22,10 +22,11 @@ data_size head = head.frames * block_align head
 abbrev pub pad_size : Head → ℕ
 pad_size head = data_size head % 2
 
--- the heads that a header can tell: from 0xFFFFFF00 on a size stands for an unknown length
+-- the heads that a header is written for: its rate is at most 1,000,000, so that no field wraps, and
+-- from 0xFFFFFF00 on a size stands for an unknown length
 pub record IsPcmHead (head : Head) : Type 0 where
   pub format : IsFrameFormat head
-  pub rate : head.rate < 2 ^ 32
+  pub rate : head.rate ≤ 1000000
   pub size : data_size head < 0xFFFFFF00
 
 -- a field of 16 bits, the lowest byte first

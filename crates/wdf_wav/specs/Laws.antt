@@ -1,34 +1,9 @@
 -- What the laws of the format say.
-use Rattle.std.specs.Prelude.{◌≡◌, ℕ, ◌+◌, ◌*◌, ◌/◌, ◌%◌, ◌<◌, ◌≤◌, List, [], ◌∷◌, ◌++◌, length, take, drop, All, ℤ}
-use Rattle.byteorder.specs.Endian.{little_number}
+use Rattle.std.specs.Prelude.{◌≡◌, ℕ, ◌+◌, ◌*◌, ◌/◌, ◌%◌, ◌<◌, ◌≤◌, List, [], ◌∷◌, ◌++◌, length, take, drop, ℤ}
 use Rattle.wdf_wav.specs.declared.head.Head.{Head}
-use Rattle.wdf_wav.specs.Header.{IsPcmHead, block_align, data_size, head_bytes_of}
-use Rattle.wdf_wav.specs.PcmStream.{IsPcmStream, data_of, sample_at, samples_of}
-use Rattle.wdf_wav.specs.SampleCoding.{IsSampleValue, sample_coding, sample_value}
-
--- numbers that a byte can hold
-abbrev pub AreBytes : List ℕ → Type 0
-AreBytes bytes = All (λ b. b < 256) bytes
-
--- the coding of a value is read as that value
-abbrev pub ReadsCoding : ℕ → Type 0
-ReadsCoding bits = (value : ℤ) → IsSampleValue bits value
-    → sample_value bits (sample_coding bits value) ≡ value
-
--- the bytes of a sample are the coding of what is read in them
-abbrev pub CodesReading : ℕ → Type 0
-CodesReading bits = (bytes : List ℕ) → length bytes ≡ bits / 8 → AreBytes bytes
-    → sample_coding bits (sample_value bits bytes) ≡ bytes
-
--- the data of samples is read as those samples
-abbrev pub ReadsData : ℕ → Type 0
-ReadsData bits = (samples : List ℤ) → All (IsSampleValue bits) samples
-    → samples_of bits (data_of bits samples) ≡ samples
-
--- bytes of whole samples are the data of what is read in them
-abbrev pub CodesSamples : ℕ → Type 0
-CodesSamples bits = (body : List ℕ) → length body % (bits / 8) ≡ 0 → AreBytes body
-    → data_of bits (samples_of bits body) ≡ body
+use Rattle.wdf_wav.specs.Header.{block_align}
+use Rattle.wdf_wav.specs.PcmStream.{data_of, sample_at, samples_of}
+use Rattle.wdf_wav.specs.SampleCoding.{sample_coding, sample_value}
 
 -- the bytes of one sample hold that one
 abbrev pub HoldsOneSample : ℕ → Type 0
@@ -68,26 +43,3 @@ HoldsSampleAt head = (body : List ℕ) (frame channel : ℕ)
     → channel < head.channels
     → sample_at head body frame channel
     ≡ sample_value head.bits (take (head.bits / 8) (drop (place_of head frame channel) body))
-
--- a header has 44 bytes, and the numbers at these places are what it tells of its head
-pub record HasFields (head : Head) : Type 0 where
-  pub long : length (head_bytes_of head) ≡ 44
-  pub channels : little_number 2 (drop 22 (head_bytes_of head)) ≡ head.channels
-  pub rate : little_number 4 (drop 24 (head_bytes_of head)) ≡ head.rate
-  pub bits : little_number 2 (drop 34 (head_bytes_of head)) ≡ head.bits
-  pub size : little_number 4 (drop 40 (head_bytes_of head)) ≡ data_size head
-
--- each header has these fields
-abbrev pub TellsFields : Type 0
-TellsFields = (head : Head) → IsPcmHead head → HasFields head
-
--- no other head has this header
-abbrev pub TellsHead : Head → Type 0
-TellsHead head = (other : Head) → IsPcmHead other
-    → head_bytes_of other ≡ head_bytes_of head → other ≡ head
-
--- bytes are the stream of one head, one body and one rest at most
-abbrev pub IsOneStream : Type 0
-IsOneStream = (bytes : List ℕ) (head head' : Head) (body body' rest rest' : List ℕ)
-    → IsPcmStream bytes head body rest → IsPcmStream bytes head' body' rest'
-    → (head' ≡ head) × (body' ≡ body) × (rest' ≡ rest)

@@ -4,8 +4,9 @@ use Rattle.wdf_wav.specs.declared.head.Head.{Head}
 use Rattle.wdf_wav.specs.Header.{IsPcmHead, data_size, head_bytes_of}
 use Rattle.wdf_wav.specs.SampleCoding.{sample_coding, sample_value}
 
--- bytes are the header of head, then body, the bytes of all its frames, then rest
-pub record IsPcmStream (bytes : List ℕ) (head : Head) (body rest : List ℕ) : Type 0 where
+-- bytes are a wave in the plain form: the 44 bytes of the header of head, then body, the bytes of
+-- all its frames, then rest
+pub record IsPlainStream (bytes : List ℕ) (head : Head) (body rest : List ℕ) : Type 0 where
   pub valid : IsPcmHead head
   pub parts : bytes ≡ head_bytes_of head ++ body ++ rest
   pub size : length body ≡ data_size head

@@ -1,16 +1,7 @@
 -- How a sample stands in the bytes of a wave: at 8 bits as an unsigned number whose middle is 128,
 -- at 16, 24 and 32 bits in two's complement, the lowest byte first.
-use Rattle.std.specs.Prelude.{◌≡◌, ℕ, ◌-◌, ◌/◌, ◌^◌, ◌==◌, ◌⊎◌, if◌then◌else◌, nat_lt, List, ℤ, pos, ◌+ℤ◌, ◌-ℤ◌, ◌≤ℤ◌, ◌<ℤ◌, int_lt, unsigned_abs}
+use Rattle.std.specs.Prelude.{ℕ, ◌-◌, ◌/◌, ◌^◌, ◌==◌, if◌then◌else◌, nat_lt, List, ℤ, pos, ◌+ℤ◌, ◌-ℤ◌, int_lt, unsigned_abs}
 use Rattle.byteorder.specs.Endian.{little_bytes, little_number}
-
--- the widths that a sample may have, in bits
-abbrev pub IsSampleWidth : ℕ → Type 0
-IsSampleWidth bits = (bits ≡ 8) ⊎ (bits ≡ 16) ⊎ (bits ≡ 24) ⊎ (bits ≡ 32)
-
--- the values of a width: -2^(bits-1) ≤ value < 2^(bits-1)
-pub record IsSampleValue (bits : ℕ) (value : ℤ) : Type 0 where
-  pub low : (pos 0 -ℤ pos (2 ^ (bits - 1))) ≤ℤ value
-  pub high : value <ℤ pos (2 ^ (bits - 1))
 
 -- the value for which the number n below 2^bits stands:
 -- n - 128 at 8 bits; else n, and from 2^(bits-1) on n - 2^bits

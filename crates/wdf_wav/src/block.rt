@@ -13,8 +13,8 @@ use wdf_io::{Failed, Source, take_exact};
 /// `buf` holds a whole number of frames of `channels · bits / 8` bytes, and the head has 1 to 8
 /// channels of 8, 16, 24 or 32 bits. Fewer frames than `buf` holds come only at the end of the
 /// input; a part of one more frame may then have been read too, and stands behind the whole ones.
-/// What stands behind the bytes that were read is as it was. The head's number of frames is for the
-/// caller to keep to: the input may go on after the data.
+/// Nothing is said of what stands behind the bytes that were read. The head's number of frames is for
+/// the caller to keep to: the input may go on after the data.
 ///
 /// # Errors
 ///
@@ -27,7 +27,7 @@ pub fn read_block<S: Source>(src: &mut S, head: &Head, buf: &mut [u8]) -> Result
 
     ensures bound { IfOk result (λ n. n * block_align head.now ≤ length buf.new) }
     ensures bytes { let align = block_align head.now in
-        IfOk result (λ n. ReadsFrames (S.left src.old) (S.left src.new) align n buf.old buf.new) }
+        IfOk result (λ n. ReadsFrames (S.left src.old) (S.left src.new) align n buf.new) }
 
     // Where all frames are whole, just the bytes of the buffer were read.
     ensures full { IfOk result (λ n. n * block_align head.now ≡ length buf.new

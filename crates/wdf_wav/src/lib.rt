@@ -7,7 +7,7 @@
 //!
 //! [`head_bytes`] gives the header. [`read_block`] reads whole frames from a source. [`sample_of`]
 //! and [`sample_bytes`] turn the bytes of a sample into its value and back. The module [`laws`] says
-//! what these codings keep.
+//! how the samples of data follow each other.
 //!
 //! ```rust
 //! let head = Head { channels: 1, rate: 48000, bits: 16, frames: 4 };

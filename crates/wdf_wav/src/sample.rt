@@ -1,5 +1,6 @@
 ghost use Rattle.std.specs.Prelude.{◌≡◌, ◌-◌, ◌/◌, length, take, drop, replicate};
-ghost use Rattle.wdf_wav.specs.SampleCoding.{IsSampleValue, IsSampleWidth, sample_coding, sample_value};
+ghost use Rattle.wdf_algebra.specs.Samples.{IsSampleValue, IsSampleWidth};
+ghost use Rattle.wdf_wav.specs.SampleCoding.{sample_coding, sample_value};
 
 use byteorder::{ByteOrder, LittleEndian};
 
@@ -15,6 +16,9 @@ pub fn sample_of(bytes: &[u8], bits: u16) -> i64
     requires whole { length bytes.now ≡ bits / 8 }
     ensures value { result ≡ sample_value bits bytes.now }
     ensures range { IsSampleValue bits result }
+
+    // These bytes are written for that value alone.
+    ensures coding { sample_coding bits result ≡ bytes.now }
 {
     match bits {
         8 => i64::from(bytes[0]) - 128,
@@ -31,6 +35,9 @@ pub fn sample_bytes(value: i64, bits: u16) -> [u8; 4]
     requires width { IsSampleWidth bits }
     requires range { IsSampleValue bits value }
     ensures coding { take (bits / 8) result ≡ sample_coding bits value }
+
+    // They are read as this value.
+    ensures value { sample_value bits (take (bits / 8) result) ≡ value }
     ensures rest { drop (bits / 8) result ≡ replicate (4 - bits / 8) 0 }
 {
     let mut bytes = [0; 4];

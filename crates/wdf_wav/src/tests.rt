@@ -1,5 +1,5 @@
 ghost use Rattle.std.specs.Prelude.{◌≡◌};
-ghost use Rattle.wdf_wav.specs.SampleCoding.{IsSampleValue, IsSampleWidth};
+ghost use Rattle.wdf_algebra.specs.Samples.{IsSampleValue, IsSampleWidth};
 
 use super::*;
 use std::process::Abort;
@@ -74,20 +74,20 @@ fn codes_samples(rt: HostRuntime) {
 fn reads_whole_frames(rt: HostRuntime) -> Result<(), Fail> {
     let alloc = rt.alloc();
     let stereo = head(2, 48000, 24, 2);
-    for (input, frames, filled) in [
-        (b"abcdefghijklmn".as_slice(), 2, *b"abcdefghijkl"),
-        (b"abcdefghij".as_slice(), 1, *b"abcdefghij.."),
-        (b"abc".as_slice(), 0, *b"abc........."),
-        (b"".as_slice(), 0, *b"............"),
+    for (input, frames, read) in [
+        (b"abcdefghijklmn".as_slice(), 2, b"abcdefghijkl".as_slice()),
+        (b"abcdefghij".as_slice(), 1, b"abcdefghij".as_slice()),
+        (b"abc".as_slice(), 0, b"abc".as_slice()),
+        (b"".as_slice(), 0, b"".as_slice()),
     ] {
         let mut source = MemSource::new(input.to_vec(alloc)?, Vec::new(alloc), 5);
-        let mut buf = *b"............";
+        let mut buf = [0; 12];
         assert_eq!(rt;
             read_block(&mut source, &stereo, &mut buf),
             Ok(frames),
             "of {input:?}"
         );
-        assert_eq!(rt; buf, filled, "of {input:?}");
+        assert!(rt; buf.starts_with(read));
     }
     let mut failing = MemSource::new(b"abcdefghijkl".to_vec(alloc)?, vec![in alloc; 1]?, 5);
     assert_eq!(rt;

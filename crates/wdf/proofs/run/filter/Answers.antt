@@ -23,6 +23,6 @@ returns-clause-ok g c =
     writes_load_waves c.args.netlist.now c.in_ok-head.head
     (g.I.Source.left c.args.input.now) (g.I.Source.left c.open.new.input) (g.I.Source.left c.filter_wave.new.input)
     (g.O.Sink.written c.args.out.now) (g.O.Sink.written c.filter_wave.new.out)
-    c.in_ok-head.ensures.ok
+    c.requires.range.rate.1 c.in_ok-head.ensures.ok
     (subst (λ (k : ℕ). WritesWave k c.in_ok-head.head (g.I.Source.left c.open.new.input) (g.I.Source.left c.filter_wave.new.input)
     (g.O.Sink.written c.args.out.now) (g.O.Sink.written c.filter_wave.new.out)) m c.in_ok-filter_wave.ensures.ok)

@@ -1,8 +1,7 @@
-use Rattle.std.proofs.Common.{◌-◌, length, drop, sym, ap, ◌∙◌, subst, rules}
-use Rattle.std.proofs.lemmas.List.{drop-drop}
+use Rattle.std.proofs.Common.{◌-◌, length, sym, subst, rules}
 use Rattle.std.specs.Io.KnownBytes.{Consumes}
 use Rattle.std.proofs.KnownBytes.{Consumes-trans}
-use Rattle.wdf_io.proofs.FilledLemmas.{take-put_mid_filled, drop-put_mid_filled}
+use Rattle.wdf_io.proofs.FilledLemmas.{take-put_mid_filled}
 use Rattle.wdf_io.proofs.copy.take_exact.Goals as goal
 
 pub loop-at-preserved : goal.loop-at-preserved
@@ -12,11 +11,9 @@ loop-at-preserved g c =
     let n = c.in_ok-count.count in
     let within = c.loop-at.invariant.in_range in
     let read = c.in_ok-count.ensures in
-    let front = take-put_mid_filled at room n c.loop-at.buf c.read_front.new.buf within read.bound.0 in
-    let behind = drop-put_mid_filled at room n c.loop-at.buf c.read_front.new.buf within read.bound.0 c.read_front.auto.buf read.rest in
+    let front = take-put_mid_filled at room n c.loop-at.buf c.read.new.buf within read.bound.0 in
     record {
       in_range = search rules;
       consumed = subst (Consumes _ _) (sym front) (Consumes-trans _ _ _ _ _ c.loop-at.invariant.consumed read.bytes.0);
-      rest = behind ∙ sym (drop-drop n at c.loop-at.buf) ∙ ap (drop n) c.loop-at.invariant.rest ∙ drop-drop n at c.args.buf.now;
       later = search rules;
     }

@@ -1,5 +1,5 @@
--- What was filled so far was consumed, and what stands behind it is as it was.
-use Rattle.std.proofs.Common.{◌≡◌, ◌-◌, ◌≤◌, length, take, drop}
+-- What was filled so far was consumed.
+use Rattle.std.proofs.Common.{◌-◌, ◌≤◌, length, take}
 use Rattle.std.specs.Io.KnownBytes.{Consumes}
 use Rattle.wdf_io.proofs.copy.take_exact.Given as goal
 
@@ -7,7 +7,6 @@ abbrev pub invariant-loop-at : goal.invariant-loop-at
 invariant-loop-at g l = record {
   in_range : l.at ≤ length l.buf;
   consumed : Consumes (g.S.Source.left l.initial.src) (g.S.Source.left l.src) (take l.at l.buf);
-  rest : drop l.at l.buf ≡ drop l.at l.initial.buf;
   later : g.S.Source.faults l.initial.src ≤ g.S.Source.faults l.src;
 }
 
