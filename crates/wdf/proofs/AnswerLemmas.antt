@@ -37,7 +37,7 @@ valid-run rate h few form =
     record {
       format = record { some_channel = omega (arith, form.channels); few_channels = omega (arith, form.channels); width = inr (inl form.bits) };
       rate = omega (arith, form.same_rate);
-      size = omega (arith, form.frames);
+      size = omega (arith, form.few);
     }
 
 -- the header and the output values of some frames are the result for these
