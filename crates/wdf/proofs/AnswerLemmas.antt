@@ -15,11 +15,13 @@ use Rattle.wdf.specs.declared.status.Status.{Status}
 use Rattle.wdf.specs.declared.status.Status.TheVariants.{Done, Truncated, ReadFault, WriteFault, LoadFault, Missing, FileTooLarge, NoMemory, Unbuilt}
 use Rattle.wdf.specs.Answer.{WritesLoadWaves, GainsFront, EndsEarly, RunStops, frames_of, held_frames}
 use Rattle.wdf.specs.Circuit.{two_leaves, root_multiplier}
+use Rattle.wdf_law.specs.RunOutputs.{GivesOutputs}
+use Rattle.wdf.specs.Plan.{guard, down_shift}
 use Rattle.wdf.specs.Opening.{Opens, WritesWave, StopsWave, EndsWave, WaveStops}
 use Rattle.wdf.specs.Progress.{data_for}
 use Rattle.wdf.specs.TwoLeafWave.{values_of}
 use Rattle.wdf.specs.WaveForm.{IsRunHead}
-use Rattle.wdf.specs.Written.{GivesOutputs, IsResult, IsWritten}
+use Rattle.wdf.specs.Written.{alone, IsResult, IsWritten}
 use Rattle.wdf.proofs.TwoLeaves.{gives}
 use Rattle.wdf.proofs.FrameLemmas.{data_more}
 
@@ -44,7 +46,7 @@ valid-run rate h few form =
 pub is_result : (m rate : ℕ) (h : Head) (body : List ℕ) → m ≤ 16384 → IsRunHead rate h → IsResult (two_leaves m) h body (head_bytes_of h ++ data_for m body)
 is_result m rate h body few form = record {
   values = values_of m 16 (samples_of 16 body);
-  gives = subst (λ (b : ℕ). GivesOutputs (two_leaves m) b (samples_of b body) (values_of m 16 (samples_of 16 body))) (sym form.bits) (gives m 16 (samples_of 16 body) few);
+  gives = subst (λ (b : ℕ). GivesOutputs guard down_shift b (two_leaves m) (alone (samples_of b body)) (values_of m 16 (samples_of 16 body))) (sym form.bits) (gives m 16 (samples_of 16 body) few);
   parts = ap (λ (b : ℕ). head_bytes_of h ++ data_of b (values_of m 16 (samples_of 16 body))) (sym form.bits);
 }
 

@@ -10,11 +10,12 @@ use Rattle.wdf_law.specs.Elements.{IsResistor, IsSource}
 use Rattle.wdf_law.specs.Step.{Waves, ends, forks, Frame, IsStep}
 use Rattle.wdf_law.specs.Run.{IsRun, source_values}
 use Rattle.wdf_law.specs.OutputRule.{drive, load_wave, output_of}
+use Rattle.wdf_law.specs.RunOutputs.{inputs, outputs, GivesOutputs}
 use Rattle.wdf.specs.Circuit.{two_leaves}
 use Rattle.wdf.specs.Plan.{guard, down_shift}
 use Rattle.wdf.specs.StepLaw.{IsLoadWave}
 use Rattle.wdf.specs.TwoLeafWave.{wave_of, values_of}
-use Rattle.wdf.specs.Written.{inputs, outputs, GivesOutputs}
+use Rattle.wdf.specs.Written.{alone}
 
 -- the whole frame
 abbrev pub frame_of : ℕ → ℤ → Frame
@@ -80,12 +81,12 @@ is_load_wave m e w few same = record {
   each = λ x s step. only_wave m x (source_values (two_leaves m) (e ∷ [])) s.left s.right s.b1 s.b2 few step ∙ sym same;
 }
 
-runs : (m : ℕ) (zs samples : List ℤ) → m ≤ 16384 → IsRun (two_leaves m) zs (inputs (two_leaves m) samples) (map (λ (s : ℤ). frame_of m (s *ℤ pos (2 ^ guard))) samples)
+runs : (m : ℕ) (zs samples : List ℤ) → m ≤ 16384 → IsRun (two_leaves m) zs (inputs guard (two_leaves m) (alone samples)) (map (λ (s : ℤ). frame_of m (s *ℤ pos (2 ^ guard))) samples)
 runs m zs [] few = tt
 runs m zs (s ∷ samples) few = (solves m _ (drive guard (two_leaves m) (s ∷ [])) few, runs m _ samples few)
 
-only_values : (m bits : ℕ) (zs samples : List ℤ) (steps : List Frame) → m ≤ 16384 → IsRun (two_leaves m) zs (inputs (two_leaves m) samples) steps
-    → outputs (two_leaves m) bits steps ≡ values_of m bits samples
+only_values : (m bits : ℕ) (zs samples : List ℤ) (steps : List Frame) → m ≤ 16384 → IsRun (two_leaves m) zs (inputs guard (two_leaves m) (alone samples)) steps
+    → outputs down_shift bits (two_leaves m) steps ≡ values_of m bits samples
 only_values m bits zs [] [] few run = refl
 only_values m bits zs [] (s ∷ steps) few run = absurd run
 only_values m bits zs (e ∷ samples) [] few run = absurd run
@@ -95,7 +96,7 @@ only_values m bits zs (e ∷ samples) (s ∷ steps) few run =
     λ i. output_of down_shift bits (here i) ∷ others i
 
 -- the reference run on the samples has these output values, and no others
-pub gives : (m bits : ℕ) (samples : List ℤ) → m ≤ 16384 → GivesOutputs (two_leaves m) bits samples (values_of m bits samples)
+pub gives : (m bits : ℕ) (samples : List ℤ) → m ≤ 16384 → GivesOutputs guard down_shift bits (two_leaves m) (alone samples) (values_of m bits samples)
 gives m bits samples few = record {
   run = (map (λ (s : ℤ). frame_of m (s *ℤ pos (2 ^ guard))) samples, runs m _ samples few);
   each = λ steps run. only_values m bits _ samples steps few run;

@@ -13,7 +13,8 @@ use Rattle.wdf_law.specs.Step.{up_wave, down_wave, Frame, IsStep}
 use Rattle.wdf_law.specs.Energy.{stored_in, incident_in, incident}
 use Rattle.wdf_law.specs.Solved.{ups, waves, solved}
 use Rattle.wdf_law.specs.Laws.{AreBounded, IsFrameBounded}
-use Rattle.wdf_law.proofs.ConductanceLemmas.{IsSound, HasSoundTrees, conductance-pos, series_first-pos, series_second-pos, parallel_first-pos, parallel_second-pos, left_factor-pos, right_factor-pos, series_law, parallel_law, root_law, whole_of}
+use Rattle.wdf_law.specs.TreeRules.{IsSound, HasSoundTrees}
+use Rattle.wdf_law.proofs.ConductanceLemmas.{conductance-pos, series_first-pos, series_second-pos, parallel_first-pos, parallel_second-pos, left_factor-pos, right_factor-pos, series_law, parallel_law, root_law, whole_of}
 use Rattle.wdf_law.proofs.JunctionLemmas.{parallel_solved, series_solved, root_solved}
 use Rattle.wdf_law.proofs.StepLemmas.{up_wave-waves, down_wave-waves, follows, step-alone}
 use Rattle.wdf_law.proofs.Losses.{Conserves, parallel_conserves, series_conserves, root_conserves, loses}

@@ -7,13 +7,8 @@ use Rattle.std.proofs.lemmas.List.Elements.{All-nil, All-cons, All-head, All-tai
 use Rattle.wdf_law.specs.Trees.{AdaptorTree, leaf, series, parallel}
 use Rattle.wdf_law.specs.Network.{Network, IsNetwork, Adaptor, unit_of, adaptors_of, multipliers_of}
 use Rattle.wdf_law.specs.Conductance.{clearing, conductance, series_first, series_second, parallel_first, parallel_second, root_first, root_second, left_factor, right_factor}
+use Rattle.wdf_law.specs.TreeRules.{IsSound, HasSoundTrees}
 use Rattle.wdf_law.specs.Laws.{AreParallel, AreSeries, HaveConductances, HasConductances}
-
--- every multiplier of a tree is in 1..=q-1
-abbrev pub IsSound : ℕ → AdaptorTree → Type 0
-IsSound q (leaf i k flip) = Unit {0}
-IsSound q (series m l r) = (1 ≤ m) × (m < q) × IsSound q l × IsSound q r
-IsSound q (parallel m l r) = (1 ≤ m) × (m < q) × IsSound q l × IsSound q r
 
 abbrev InRange : ℕ → ℕ → Type 0
 InRange q m = (1 ≤ m) × (m < q)
@@ -41,14 +36,6 @@ sound q (parallel m l r) h =
     let here = All-head (InRange q) m (map (λ (a : Adaptor). a.multiplier) (adaptors_of l ++ adaptors_of r)) h in
     let rest = split q l r (All-tail (InRange q) m (map (λ (a : Adaptor). a.multiplier) (adaptors_of l ++ adaptors_of r)) h) in
     (here.0, here.1, sound q l (all_front q (multipliers_of l) (multipliers_of r) rest), sound q r (all_behind q (multipliers_of l) (multipliers_of r) rest))
-
--- what a network keeps of its multipliers
-pub record HasSoundTrees (n : Network) : Type 0 where
-  pub unit : 0 < unit_of n
-  pub some : 1 ≤ n.m
-  pub few : n.m < unit_of n
-  pub left : IsSound (unit_of n) n.left
-  pub right : IsSound (unit_of n) n.right
 
 pub sound_trees : (n : Network) → IsNetwork n → HasSoundTrees n
 sound_trees n rules =

@@ -10,12 +10,15 @@ pub mod Losses
 pub mod LosslessLemmas
 pub mod Marking
 pub mod NumberFaults
+pub mod NumberLemmas
 pub mod Pigeonhole
+pub mod PortLemmas
 pub mod Ranges
 pub mod Refusing
 pub mod Sources
 pub mod StateLemmas
 pub mod StepLemmas
 pub mod Unrefused
+pub mod SumLemmas
 pub mod Walks
 pub mod WaveLemmas

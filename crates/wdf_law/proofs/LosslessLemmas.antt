@@ -15,7 +15,8 @@ use Rattle.wdf_law.specs.Step.{Waves, ends, forks, up_wave, down_wave, Follows, 
 use Rattle.wdf_law.specs.Run.{states}
 use Rattle.wdf_law.specs.Energy.{stored_in, incident_in, absorbed_in, stored, incident, absorbed}
 use Rattle.wdf_law.specs.Laws.{IsExact, AreExact, IsLossless}
-use Rattle.wdf_law.proofs.ConductanceLemmas.{IsSound, HasSoundTrees, sound_trees, conductance-pos, series_first-pos, series_second-pos, parallel_first-pos, parallel_second-pos, left_factor-pos, right_factor-pos}
+use Rattle.wdf_law.specs.TreeRules.{IsSound, HasSoundTrees}
+use Rattle.wdf_law.proofs.ConductanceLemmas.{sound_trees, conductance-pos, series_first-pos, series_second-pos, parallel_first-pos, parallel_second-pos, left_factor-pos, right_factor-pos}
 use Rattle.wdf_law.proofs.Losses.{Conserves, parallel_conserves, series_conserves, root_conserves, loses}
 use Rattle.wdf_law.proofs.BalanceLemmas.{kept_in, kept, balance, held}
 use Rattle.wdf_law.proofs.StateLemmas.{stored-after}

@@ -1,5 +1,5 @@
 -- From every state and for every input there is one step, the solved one.
-use Rattle.std.proofs.Common.{◌≡◌, ℕ, ◌-◌, ◌<◌, refl, ap, sym, ◌∙◌, subst}
+use Rattle.std.proofs.Common.{◌≡◌, ℕ, ◌-◌, ◌<◌, refl, List, [], ◌∷◌, ap, sym, ◌∙◌, subst}
 use lib.IntN.{ℤ}
 use Rattle.wdf_algebra.specs.JunctionValues.{series_value, series_part, parallel_value, parallel_part, root_value}
 use Rattle.wdf_algebra.specs.Truncation.{trunc}
@@ -7,11 +7,13 @@ use Rattle.wdf_law.specs.Trees.{AdaptorTree, leaf, series, parallel}
 use Rattle.wdf_law.specs.Network.{Network, IsNetwork, unit_of}
 use Rattle.wdf_law.specs.Conductance.{conductance, series_first, series_second, parallel_first, parallel_second, left_factor, right_factor}
 use Rattle.wdf_law.specs.Junction.{IsParallel, IsSeries, IsRoot}
-use Rattle.wdf_law.specs.Step.{Waves, ends, forks, up_wave, down_wave, Follows, Frame, IsStep}
-use Rattle.wdf_law.specs.Run.{states}
-use Rattle.wdf_law.specs.Solved.{ups, waves, solved}
-use Rattle.wdf_law.specs.Laws.{HasOneStep}
-use Rattle.wdf_law.proofs.ConductanceLemmas.{IsSound, HasSoundTrees, sound_trees, conductance-pos, series_first-pos, series_second-pos, parallel_first-pos, parallel_second-pos, left_factor-pos, right_factor-pos, series_law, parallel_law, root_law, whole_of}
+use Rattle.wdf_law.specs.Step.{Waves, ends, forks, up_wave, down_wave, Follows, Frame, IsStep, after}
+use Rattle.wdf_law.specs.Run.{states, IsRun, at_rest}
+use Rattle.wdf_law.specs.RunOutputs.{inputs, outputs}
+use Rattle.wdf_law.specs.Solved.{ups, waves, solved, solved_run}
+use Rattle.wdf_law.specs.Laws.{HasOneStep, HasOneOutput}
+use Rattle.wdf_law.specs.TreeRules.{IsSound, HasSoundTrees}
+use Rattle.wdf_law.proofs.ConductanceLemmas.{sound_trees, conductance-pos, series_first-pos, series_second-pos, parallel_first-pos, parallel_second-pos, left_factor-pos, right_factor-pos, series_law, parallel_law, root_law, whole_of}
 use Rattle.wdf_law.proofs.ElementLemmas.{reflects, reflected-meets}
 use Rattle.wdf_law.proofs.StateLemmas.{states-after}
 use Rattle.wdf_law.proofs.JunctionLemmas.{parallel_solved, parallel_alone, series_solved, series_alone, root_solved, root_alone_first, root_alone_second}
@@ -158,6 +160,19 @@ step-alone n s x e f step =
     let below2 = right ∙ ap (waves q x e n.right) (step.to_right ∙ ap (λ (v : ℤ). trunc v q) e2) in
     λ i. record { b1 = e1 i; b2 = e2 i; left = below1 i; right = below2 i }
 
+solved-runs : (n : Network) → HasSoundTrees n → (zs : List ℤ) (es : List (ℕ → ℤ)) → IsRun n zs es (solved_run n zs es)
+solved-runs n s zs [] = tt
+solved-runs n s zs (e ∷ es) = (solved-steps n s (states n zs) e, solved-runs n s (after n (solved n (states n zs) e)) es)
+
+run-alone : (n : Network) → HasSoundTrees n → (zs : List ℤ) (es : List (ℕ → ℤ)) (ss : List Frame) → IsRun n zs es ss → ss ≡ solved_run n zs es
+run-alone n s zs [] [] run = refl
+run-alone n s zs [] (f ∷ ss) run = absurd run
+run-alone n s zs (e ∷ es) [] run = absurd run
+run-alone n s zs (e ∷ es) (f ∷ ss) run =
+    let first = step-alone n s (states n zs) e f run.0 in
+    let later : ss ≡ solved_run n (after n f) es = run-alone n s (after n f) es ss run.1 in
+    (λ i. f ∷ later i) ∙ ap (λ (g : Frame). g ∷ solved_run n (after n g) es) first
+
 pub has_one_step : (n : Network) → IsNetwork n → HasOneStep n
 has_one_step n rules =
     let s = sound_trees n rules in
@@ -165,5 +180,18 @@ has_one_step n rules =
       some = λ zs e. (solved n (states n zs) e, solved-steps n s (states n zs) e);
       only = λ zs e f t h k. step-alone n s (states n zs) e f h ∙ sym (step-alone n s (states n zs) e t k);
       values = λ zs e. solved-steps n s (states n zs) e;
+      run = solved-runs n s;
+      only_run = run-alone n s;
       left_behind = λ f i h. states-after n f rules i h;
+    }
+
+pub has_one_output : (n : Network) → IsNetwork n → HasOneOutput n
+has_one_output n rules =
+    let s = sound_trees n rules in
+    record {
+      some = λ guard down_shift bits samples. record {
+        run = (solved_run n (at_rest n) (inputs guard n samples), solved-runs n s (at_rest n) (inputs guard n samples));
+        each = λ steps run. ap (outputs down_shift bits n) (run-alone n s (at_rest n) (inputs guard n samples) steps run);
+      };
+      only = λ guard down_shift bits samples values gives. sym (gives.each _ (solved-runs n s (at_rest n) (inputs guard n samples)));
     }

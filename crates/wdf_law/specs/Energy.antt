@@ -1,14 +1,15 @@
 -- The energies of a network, as sums of weighted squares: g·x² at a port of the conductance g. Their unit is that of the
 -- conductances.
-use Rattle.std.specs.Prelude.{ℕ, ◌+◌, ◌*◌, ◌==◌, if◌then◌else◌, ℤ, List, [], ◌∷◌}
+use Rattle.std.specs.Prelude.{ℕ, ◌+◌, ◌*◌, if◌then◌else◌, ℤ, List, [], ◌∷◌}
 use Rattle.wdf_algebra.specs.Squares.{square}
 use Rattle.wdf_law.specs.declared.kind.Kind.{Kind}
 use Rattle.wdf_law.specs.declared.kind.Kind.TheVariants.{Res, Cap, Ind, Src}
 use Rattle.wdf_law.specs.Trees.{AdaptorTree, leaf, series, parallel}
-use Rattle.wdf_law.specs.Network.{Network, unit_of}
+use Rattle.wdf_law.specs.Network.{Network, unit_of, elements, has_absorbing}
 use Rattle.wdf_law.specs.Conductance.{conductance, series_first, series_second, parallel_first, parallel_second, left_factor, right_factor}
-use Rattle.wdf_law.specs.Step.{Waves, ends, forks, Frame}
+use Rattle.wdf_law.specs.Step.{Waves, ends, forks, Frame, sent_in}
 use Rattle.wdf_law.specs.Run.{states}
+use Rattle.wdf_law.specs.Ports.{conductance_at}
 
 -- a reactance's share, a source's share, and that of a resistor or a source
 abbrev pub if_reactance : Kind → ℕ → ℕ
@@ -71,16 +72,8 @@ all_absorbed n [] = 0
 all_absorbed n (s ∷ ss) = absorbed n s + all_absorbed n ss
 
 -- g·d² at the resistor or source with the number j, 0 where there is none
-abbrev pub taken_in : ℕ → ℕ → ℕ → AdaptorTree → Waves → ℕ
-taken_in q j f (leaf i k flip) (ends u d) = if i == j then if_absorbing k (conductance q f (leaf i k flip) * square d) else 0
-taken_in q j f (leaf i k flip) (forks u d b1 b2 b wl wr) = 0
-taken_in q j f (series m l r) (ends u d) = 0
-taken_in q j f (series m l r) (forks u d b1 b2 b wl wr) = taken_in q j (series_first q f m r) l wl + taken_in q j (series_second q f m l) r wr
-taken_in q j f (parallel m l r) (ends u d) = 0
-taken_in q j f (parallel m l r) (forks u d b1 b2 b wl wr) = taken_in q j (parallel_first q f m r) l wl + taken_in q j (parallel_second q f m l) r wr
-
 abbrev pub taken : Network → ℕ → Frame → ℕ
-taken n j s = taken_in (unit_of n) j (left_factor n) n.left s.left + taken_in (unit_of n) j (right_factor n) n.right s.right
+taken n j s = if has_absorbing (elements n) j then conductance_at n j * square (sent_in n s j) else 0
 
 -- g times the sum of d² over a run
 abbrev pub all_taken : Network → ℕ → List Frame → ℕ

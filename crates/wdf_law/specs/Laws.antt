@@ -6,8 +6,9 @@ use Rattle.wdf_law.specs.Trees.{AdaptorTree, leaf, series, parallel}
 use Rattle.wdf_law.specs.Network.{Network, unit_of, elements, has_reactance}
 use Rattle.wdf_law.specs.Conductance.{conductance, series_first, series_second, parallel_first, parallel_second, left_factor, right_factor}
 use Rattle.wdf_law.specs.Step.{Waves, ends, forks, Frame, IsStep, sent_in, after}
-use Rattle.wdf_law.specs.Solved.{solved}
+use Rattle.wdf_law.specs.Solved.{solved, solved_run}
 use Rattle.wdf_law.specs.Run.{states, at_rest, IsRun, at_end}
+use Rattle.wdf_law.specs.RunOutputs.{inputs, outputs, GivesOutputs}
 use Rattle.wdf_law.specs.Energy.{stored, incident, absorbed, all_incident, all_absorbed, all_taken}
 
 -- ---- conductances
@@ -49,8 +50,18 @@ pub record HasOneStep (n : Network) : Type 0 where
   pub only : (zs : List ℤ) (e : ℕ → ℤ) (s t : Frame) → IsStep n (states n zs) e s → IsStep n (states n zs) e t → s ≡ t
   -- so it is the one whose values the junctions' equations were solved for
   pub values : (zs : List ℤ) (e : ℕ → ℤ) → IsStep n (states n zs) e (solved n (states n zs) e)
+  -- and so for a run
+  pub run : (zs : List ℤ) (es : List (ℕ → ℤ)) → IsRun n zs es (solved_run n zs es)
+  pub only_run : (zs : List ℤ) (es : List (ℕ → ℤ)) (ss : List Frame) → IsRun n zs es ss → ss ≡ solved_run n zs es
   -- a reactance's state after a step is the wave that it was sent
   pub left_behind : (s : Frame) (i : ℕ) → has_reactance (elements n) i ≡ true → states n (after n s) i ≡ sent_in n s i
+
+-- so samples give the outputs of the solved run, and no others
+pub record HasOneOutput (n : Network) : Type 0 where
+  pub some : (guard down_shift bits : ℕ) (samples : List (List ℤ))
+      → GivesOutputs guard down_shift bits n samples (outputs down_shift bits n (solved_run n (at_rest n) (inputs guard n samples)))
+  pub only : (guard down_shift bits : ℕ) (samples : List (List ℤ)) (values : List ℤ) → GivesOutputs guard down_shift bits n samples values
+      → values ≡ outputs down_shift bits n (solved_run n (at_rest n) (inputs guard n samples))
 
 -- ---- energy
 
@@ -68,6 +79,13 @@ pub record IsLossless (n : Network) (s : Frame) : Type 0 where
   pub left : AreExact (unit_of n) s.left
   pub right : AreExact (unit_of n) s.right
 
+-- after each frame, what is stored and all that was absorbed is at most all that came in; a is what was absorbed
+-- before the first and c what came in before it, stored or not
+abbrev pub IsRunKept : Network → ℕ → ℕ → List (ℕ → ℤ) → List Frame → Type 0
+IsRunKept n a c [] ss = Unit {0}
+IsRunKept n a c (e ∷ es) [] = Unit {0}
+IsRunKept n a c (e ∷ es) (s ∷ ss) = (stored n (after n s) + (a + absorbed n s) ≤ c + incident n e) × IsRunKept n (a + absorbed n s) (c + incident n e) es ss
+
 pub record KeepsEnergy (n : Network) : Type 0 where
   -- what is stored after a step and what was absorbed is at most what was stored before and what came in
   pub step : (zs : List ℤ) (e : ℕ → ℤ) (s : Frame) → IsStep n (states n zs) e s
@@ -78,7 +96,16 @@ pub record KeepsEnergy (n : Network) : Type 0 where
   -- and only there
   pub only_lossless : (zs : List ℤ) (e : ℕ → ℤ) (s : Frame) → IsStep n (states n zs) e s
       → stored n (after n s) + absorbed n s ≡ stored n zs + incident n e → IsLossless n s
-  -- and so over a run from rest
+  -- so in a run, after each frame, what is stored and was absorbed so far is at most what was stored at first and came in
+  -- so far
+  pub every_frame : (zs : List ℤ) (es : List (ℕ → ℤ)) (ss : List Frame) → IsRun n zs es ss → IsRunKept n 0 (stored n zs) es ss
+  -- and over the whole of it
+  pub whole : (zs : List ℤ) (es : List (ℕ → ℤ)) (ss : List Frame) → IsRun n zs es ss
+      → stored n (at_end n zs ss) + all_absorbed n ss ≤ stored n zs + all_incident n es
+  -- at rest nothing is stored
+  pub rest : stored n (at_rest n) ≡ 0
+  -- so from rest all is at most what came in
+  pub every_frame_from_rest : (es : List (ℕ → ℤ)) (ss : List Frame) → IsRun n (at_rest n) es ss → IsRunKept n 0 0 es ss
   pub run : (es : List (ℕ → ℤ)) (ss : List Frame) → IsRun n (at_rest n) es ss
       → stored n (at_end n (at_rest n) ss) + all_absorbed n ss ≤ all_incident n es
 
@@ -123,7 +150,9 @@ IsRunBounded n c (e ∷ es) (s ∷ ss) = IsFrameBounded n (c + incident n e) s �
 pub record BoundsEveryWave (n : Network) : Type 0 where
   -- by what was stored and what comes in
   pub step : (zs : List ℤ) (e : ℕ → ℤ) (s : Frame) → IsStep n (states n zs) e s → IsFrameBounded n (stored n zs + incident n e) s
-  -- in a run from rest by what was sent in so far
+  -- in a run by what was stored at first and was sent in so far
+  pub every_frame : (zs : List ℤ) (es : List (ℕ → ℤ)) (ss : List Frame) → IsRun n zs es ss → IsRunBounded n (stored n zs) es ss
+  -- from rest by what was sent in so far
   pub run : (es : List (ℕ → ℤ)) (ss : List Frame) → IsRun n (at_rest n) es ss → IsRunBounded n 0 es ss
   -- and a resistor or source takes up no more than all that was sent in
   pub sums : (j : ℕ) (es : List (ℕ → ℤ)) (ss : List Frame) → IsRun n (at_rest n) es ss → all_taken n j ss ≤ all_incident n es

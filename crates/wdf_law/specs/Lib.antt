@@ -8,12 +8,16 @@ pub mod Network
 pub mod NetworkCode
 pub mod Outline
 pub mod OutputRule
+pub mod PortLaws
+pub mod Ports
 pub mod Refusal
 pub mod RefusalOrder
 pub mod Reversal
 pub mod Run
+pub mod RunOutputs
 pub mod Solved
 pub mod Spans
 pub mod Step
+pub mod TreeRules
 pub mod Trees
 pub mod WorkedFrames

@@ -81,17 +81,36 @@ is_reactance Ind = true
 is_reactance Res = false
 is_reactance Src = false
 
--- an element with this number that is a capacitor or an inductor is among the elements
+-- resistors and sources
+abbrev pub is_absorbing : Kind → Bool
+is_absorbing Res = true
+is_absorbing Src = true
+is_absorbing Cap = false
+is_absorbing Ind = false
+
+-- an element with this number is among the elements
+abbrev pub has_element : List LeafElement → ℕ → Bool
+has_element xs i = list_any (λ (x : LeafElement). x.number == i) xs
+
+-- a leaf of the tree has this number
+abbrev pub has_leaf : AdaptorTree → ℕ → Bool
+has_leaf t i = has_element (elements_of t) i
+
+-- an element with this number that is of such a kind is among the elements
+abbrev pub has_kind : (Kind → Bool) → List LeafElement → ℕ → Bool
+has_kind is xs i = list_any (λ (x : LeafElement). (x.number == i) && is x.kind) xs
+
 abbrev pub has_reactance : List LeafElement → ℕ → Bool
-has_reactance xs i = list_any (λ (x : LeafElement). (x.number == i) && is_reactance x.kind) xs
+has_reactance xs i = has_kind is_reactance xs i
 
--- a resistor with this number is among the elements
 abbrev pub has_resistor : List LeafElement → ℕ → Bool
-has_resistor xs i = list_any (λ (x : LeafElement). (x.number == i) && is_resistor x.kind) xs
+has_resistor xs i = has_kind is_resistor xs i
 
--- a source with this number is among the elements
 abbrev pub has_source : List LeafElement → ℕ → Bool
-has_source xs i = list_any (λ (x : LeafElement). (x.number == i) && is_source x.kind) xs
+has_source xs i = has_kind is_source xs i
+
+abbrev pub has_absorbing : List LeafElement → ℕ → Bool
+has_absorbing xs i = has_kind is_absorbing xs i
 
 -- a load is the number of a resistor
 abbrev pub has_outlet : List LeafElement → Outlet → Bool
@@ -130,3 +149,7 @@ pub record IsNetwork (n : Network) : Type 0 where
 -- the numbers of the reactances, in netlist order
 abbrev pub reactances : Network → List ℕ
 reactances n = numbers_with has_reactance (elements n)
+
+-- those of the resistors and the sources, in netlist order
+abbrev pub absorbing_numbers : Network → List ℕ
+absorbing_numbers n = numbers_with has_absorbing (elements n)

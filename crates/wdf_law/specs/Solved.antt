@@ -1,5 +1,5 @@
--- The step of a network, solved: the up waves from the leaves to the root, and then the waves down.
-use Rattle.std.specs.Prelude.{ℕ, ◌-◌, ℤ, pos, neg_ℤ, Bool}
+-- The step and the run of a network, solved: the up waves from the leaves to the root, and then the waves down.
+use Rattle.std.specs.Prelude.{ℕ, ◌-◌, ℤ, pos, neg_ℤ, Bool, List, [], ◌∷◌}
 use Rattle.wdf_algebra.specs.JunctionValues.{series_value, series_part, parallel_value, parallel_part, root_value}
 use Rattle.wdf_algebra.specs.Truncation.{trunc}
 use Rattle.wdf_law.specs.declared.kind.Kind.{Kind}
@@ -7,7 +7,8 @@ use Rattle.wdf_law.specs.declared.kind.Kind.TheVariants.{Res, Cap, Ind, Src}
 use Rattle.wdf_law.specs.Trees.{AdaptorTree, leaf, series, parallel}
 use Rattle.wdf_law.specs.Network.{Network, unit_of}
 use Rattle.wdf_law.specs.Elements.{signed}
-use Rattle.wdf_law.specs.Step.{Waves, ends, forks, Frame}
+use Rattle.wdf_law.specs.Step.{Waves, ends, forks, Frame, after}
+use Rattle.wdf_law.specs.Run.{states}
 
 -- what an element reflects
 abbrev pub reflected : Kind → Bool → ℤ → ℤ → ℤ
@@ -47,3 +48,10 @@ solved n x e =
     let b1 = root_value q n.m (q - n.m) u1 u2 u1 in
     let b2 = root_value q n.m (q - n.m) u1 u2 u2 in
     record { b1 = b1; b2 = b2; left = waves q x e n.left (trunc b1 q); right = waves q x e n.right (trunc b2 q) }
+
+-- the steps of a run from the states zs
+abbrev pub solved_run : Network → List ℤ → List (ℕ → ℤ) → List Frame
+solved_run n zs [] = []
+solved_run n zs (e ∷ es) =
+    let s = solved n (states n zs) e in
+    s ∷ solved_run n (after n s) es

@@ -1,11 +1,10 @@
 -- The reference step: waves at every port of a network and outgoing values at every junction that meet
 -- Kirchhoff's laws at each junction and the element's law at each leaf. Each value is truncated towards
 -- zero as it leaves its junction, and nothing else is lost.
-use Rattle.std.specs.Prelude.{◌≡◌, ℕ, ℤ, pos, Bool, ◌==◌, if◌then◌else◌, List, map}
-use Rattle.std.specs.List.{list_any}
+use Rattle.std.specs.Prelude.{◌≡◌, ℕ, ℤ, pos, ◌==◌, if◌then◌else◌, List, map}
 use Rattle.wdf_algebra.specs.Truncation.{trunc}
-use Rattle.wdf_law.specs.Trees.{AdaptorTree, leaf, series, parallel, LeafElement, elements_of}
-use Rattle.wdf_law.specs.Network.{Network, unit_of, reactances}
+use Rattle.wdf_law.specs.Trees.{AdaptorTree, leaf, series, parallel}
+use Rattle.wdf_law.specs.Network.{Network, unit_of, has_leaf, reactances}
 use Rattle.wdf_law.specs.Conductance.{conductance, series_first, series_second, parallel_first, parallel_second, left_factor, right_factor}
 use Rattle.wdf_law.specs.Junction.{IsParallel, IsSeries, IsRoot, Truncates}
 use Rattle.wdf_law.specs.Elements.{ObeysElementLaw}
@@ -56,10 +55,6 @@ pub record IsStep (n : Network) (x e : ℕ → ℤ) (s : Frame) : Type 0 where
   pub to_right : down_wave s.right ≡ trunc s.b2 (unit_of n)
   pub left : Follows (unit_of n) x e (left_factor n) n.left s.left
   pub right : Follows (unit_of n) x e (right_factor n) n.right s.right
-
--- the tree has a leaf with this number
-abbrev pub has_leaf : AdaptorTree → ℕ → Bool
-has_leaf t i = list_any (λ (y : LeafElement). y.number == i) (elements_of t)
 
 -- the down wave of the leaf with this number, 0 where there is none
 abbrev pub sent : AdaptorTree → Waves → ℕ → ℤ

@@ -1,6 +1,8 @@
 //! What the definitions of `specs/` imply: each function is a law, whose contract is proved and
 //! whose body is empty.
-ghost use Rattle.wdf_law.specs.Laws.{BoundsEveryWave, HasConductances, HasOneStep, KeepsEnergy};
+ghost use Rattle.wdf_law.specs.Laws.{BoundsEveryWave, HasConductances, HasOneOutput, HasOneStep, KeepsEnergy};
+ghost use Rattle.wdf_law.specs.PortLaws.{HasPorts};
+ghost use Rattle.wdf_law.specs.TreeRules.{HasNumbers, HasSoundTrees};
 ghost use Rattle.wdf_law.specs.WorkedFrames.{AreWorked};
 
 use crate::Net;
@@ -19,16 +21,50 @@ pub fn conductances(net: &Net)
     net.rules();
 }
 
-/// From every state and for every input there is a step, and any two such steps are equal.
+/// Every multiplier of the two trees is in `1..=2^k - 1`, as a fact that goes down the trees.
+pub fn multipliers(net: &Net)
+    ensures { HasSoundTrees net.now }
+{
+    net.rules();
+}
+
+/// The numbers of the elements are those below their count, each once, so that no two leaves of
+/// the trees have one number; and a list of one value for each reactance gives each its own.
+pub fn numbers(net: &Net)
+    ensures { HasNumbers net.now }
+{
+    net.rules();
+}
+
+/// In a step each element has a port with the conductance and the waves that the network has at
+/// its number. These conductances are positive, and the stored, the incident and the absorbed
+/// energy are sums over them; where no source's value is larger than c, the incident energy is at
+/// most the sources' conductances times c².
+pub fn ports(net: &Net)
+    ensures { HasPorts net.now }
+{
+    net.rules();
+}
+
+/// From every state and for every input there is a step, and any two such steps are equal; it is
+/// the solved one, and what it sent to the reactances is their state after it.
 pub fn one_step(net: &Net)
     ensures { HasOneStep net.now }
 {
     net.rules();
 }
 
+/// So for every list of frames of samples, one for each source, there is one list of output values.
+pub fn one_output(net: &Net)
+    ensures { HasOneOutput net.now }
+{
+    net.rules();
+}
+
 /// In no step do the stored and the absorbed energy exceed what was stored before and what the
-/// sources sent in; they are equal where nothing is truncated, and so a run from rest never holds
-/// more than was sent in.
+/// sources sent in; they are equal exactly where nothing is truncated. So in a run, after each
+/// frame, what is stored and was absorbed so far is at most what was stored at first and was sent
+/// in so far; at rest nothing is stored.
 pub fn energy(net: &Net)
     ensures { KeepsEnergy net.now }
 {
