@@ -14,7 +14,7 @@ pub enum Kind {
 }
 
 impl Kind {
-    ghost use Rattle.wdf_law.specs.Network.{is_resistor, is_reactance, is_source};
+    ghost use Rattle.wdf_law.specs.Network.{is_absorbing, is_resistor, is_reactance, is_source};
 
     /// A resistor.
     pub fn is_resistor(&self) -> bool
@@ -28,6 +28,13 @@ impl Kind {
         ensures { result ≡ is_reactance self.now }
     {
         matches!(self, Kind::Cap | Kind::Ind)
+    }
+
+    /// A resistor or a source, which takes up energy.
+    pub fn is_absorbing(&self) -> bool
+        ensures { result ≡ is_absorbing self.now }
+    {
+        matches!(self, Kind::Res | Kind::Src)
     }
 
     /// A source.

@@ -15,6 +15,8 @@ mod outlet;
 mod rules;
 mod shape;
 mod side;
+#[cfg(test)]
+mod tests;
 mod tree;
 
 pub use connection::Connection;

@@ -1,6 +1,6 @@
-ghost use Rattle.std.specs.Prelude.{◌≡◌, ℕ, ◌<◌, ◌≤◌, ◌^◌, ◌↔◌, ◌++◌, length, None, Some, IsOk, IfOk, slice_get, map};
+ghost use Rattle.std.specs.Prelude.{◌≡◌, ℕ, ◌<◌, ◌≤◌, ◌^◌, ◌↔◌, ◌++◌, ◌-◌, length, None, Some, IsOk, IfOk, slice_get, map};
 ghost use Rattle.wdf_law.specs.Trees.{adaptor_tree};
-ghost use Rattle.wdf_law.specs.Network.{IsNetwork, Adaptor, network_of, adaptors_of, elements, multipliers, reactances, has_reactance, source_numbers};
+ghost use Rattle.wdf_law.specs.Network.{IsNetwork, Adaptor, network_of, adaptors_of, elements, multipliers, reactances, has_reactance, has_absorbing, source_numbers};
 ghost use Rattle.wdf_law.specs.Marks.{number_behind};
 ghost use Rattle.wdf_law.specs.OutputRule.{outlet_element};
 ghost use Rattle.wdf_law.specs.Refusal.{HasBadWidth, IsTooDeep, HasBadMultiplier, HasBadElement, HasDoubleElement, HasMissingElement, HasNoSource, HasTooManySources, HasNoOutlet};
@@ -8,6 +8,7 @@ ghost use Rattle.wdf_law.specs.declared.TheConstants.{MAX_SOURCES};
 
 use crate::rules::{is_source, leaves, refused, source_behind};
 use crate::{NetError, Outlet, Tree};
+use std::alloc::{AllocError, Global};
 use std::marker::Model;
 
 /// A quantised network: a left and a right tree of adaptors that are joined at the root. Its
@@ -76,6 +77,25 @@ impl Net {
                 outlet,
             }),
         }
+    }
+
+    /// The same network once more.
+    ///
+    /// # Errors
+    ///
+    /// Where no memory is left.
+    pub fn copy(&self, alloc: Global) -> Result<Net, AllocError>
+        ensures { IfOk result (λ net. net ≡ self.now) }
+    {
+        let left = self.left.copy(alloc)?;
+        let right = self.right.copy(alloc)?;
+        Ok(Net {
+            k: self.k,
+            m: self.m,
+            left,
+            right,
+            outlet: self.outlet,
+        })
     }
 
     /// The width of the multipliers, in bits.
@@ -177,9 +197,17 @@ impl Net {
     }
 
     /// A multiplier, in units of `2^-k`, in the order root, left tree, right tree, each junction
-    /// before its parts.
-    #[tactic(auto, using(crate::proofs::Walks::get_behind))]
+    /// before its parts; a network has one fewer than elements.
+    #[tactic(auto, using(crate::proofs::Counts::multiplier_none))]
     pub fn multiplier_at(&self, i: usize) -> Option<u32>
+        ensures value { result ≡ slice_get (multipliers self.now) i }
+        ensures none { (result ≡ None) ↔ (length (elements self.now) - 1 ≤ i) }
+    {
+        self.multiplier(i)
+    }
+
+    #[tactic(auto, using(crate::proofs::Walks::get_behind))]
+    fn multiplier(&self, i: usize) -> Option<u32>
         ensures { result ≡ slice_get (multipliers self.now) i }
     {
         if i == 0 {
@@ -199,12 +227,20 @@ impl Net {
         }
     }
 
-    // Whether a capacitor or an inductor has this number.
+    /// Whether a capacitor or an inductor has this number.
     #[tactic(auto, using(crate::proofs::Walks::walks))]
-    fn has_reactance(&self, number: u32) -> bool
+    pub fn has_reactance(&self, number: u32) -> bool
         ensures { result ≡ has_reactance (elements self.now) number }
     {
         self.left.has_reactance(number) || self.right.has_reactance(number)
+    }
+
+    /// Whether a resistor or a source has this number.
+    #[tactic(auto, using(crate::proofs::Walks::walks))]
+    pub fn has_absorbing(&self, number: u32) -> bool
+        ensures { result ≡ has_absorbing (elements self.now) number }
+    {
+        self.left.has_absorbing(number) || self.right.has_absorbing(number)
     }
 
     /// What the type of every network keeps.

@@ -1,10 +1,11 @@
-ghost use Rattle.std.specs.Prelude.{◌≡◌, ◌≤◌, length, nat_le, IfNone};
+ghost use Rattle.std.specs.Prelude.{◌≡◌, ◌≤◌, length, nat_le, IfNone, IfOk};
 ghost use Rattle.wdf_law.specs.Trees.{adaptor_tree, depth_of, elements_of, first_of};
-ghost use Rattle.wdf_law.specs.Network.{adaptors_of, multipliers_of, numbers_of, has_resistor, has_reactance, has_source};
+ghost use Rattle.wdf_law.specs.Network.{adaptors_of, multipliers_of, numbers_of, has_resistor, has_reactance, has_absorbing, has_source};
 ghost use Rattle.wdf_law.specs.Refusal.{first_out, first_large};
 ghost use Rattle.wdf_law.specs.Marks.{first_marked, marked, number_behind};
 
 use crate::Kind;
+use std::alloc::{AllocError, Global};
 
 /// A tree of adaptors. A multiplier `m` stands for `m/2^k`, with the width `k` of its network.
 #[derive(Drop)]
@@ -19,6 +20,33 @@ pub enum Tree {
 }
 
 impl Tree {
+    /// The same tree once more.
+    ///
+    /// # Errors
+    ///
+    /// Where no memory is left.
+    pub fn copy(&self, alloc: Global) -> Result<Tree, AllocError>
+        ensures { IfOk result (λ tree. adaptor_tree tree ≡ adaptor_tree self.now) }
+    {
+        match self {
+            Tree::Leaf { elem, kind, flip } => Ok(Tree::Leaf {
+                elem: *elem,
+                kind: *kind,
+                flip: *flip,
+            }),
+            Tree::Series { m, l, r } => {
+                let l = Box::new(alloc, l.copy(alloc)?)?;
+                let r = Box::new(alloc, r.copy(alloc)?)?;
+                Ok(Tree::Series { m: *m, l, r })
+            }
+            Tree::Parallel { m, l, r } => {
+                let l = Box::new(alloc, l.copy(alloc)?)?;
+                let r = Box::new(alloc, r.copy(alloc)?)?;
+                Ok(Tree::Parallel { m: *m, l, r })
+            }
+        }
+    }
+
     /// 0 for a leaf, and one more than its deeper part for a junction.
     pub fn depth(&self) -> usize
         requires { depth_of (adaptor_tree self.now) ≤ 128 }
@@ -149,6 +177,19 @@ impl Tree {
             Tree::Leaf { elem, kind, .. } => *elem == number && kind.is_resistor(),
             Tree::Series { l, r, .. } | Tree::Parallel { l, r, .. } => {
                 l.has_resistor(number) || r.has_resistor(number)
+            }
+        }
+    }
+
+    // Whether a resistor or a source has this number.
+    #[tactic(auto, using(crate::proofs::Walks::walks))]
+    pub(crate) fn has_absorbing(&self, number: u32) -> bool
+        ensures { result ≡ has_absorbing (elements_of (adaptor_tree self.now)) number }
+    {
+        match self {
+            Tree::Leaf { elem, kind, .. } => *elem == number && kind.is_absorbing(),
+            Tree::Series { l, r, .. } | Tree::Parallel { l, r, .. } => {
+                l.has_absorbing(number) || r.has_absorbing(number)
             }
         }
     }
