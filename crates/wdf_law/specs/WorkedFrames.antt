@@ -8,6 +8,7 @@ use Rattle.wdf_law.specs.Network.{Network}
 use Rattle.wdf_law.specs.Step.{ends, forks, Frame, IsStep, after}
 use Rattle.wdf_law.specs.Run.{states, source_values}
 use Rattle.wdf_law.specs.OutputRule.{load_wave}
+use Rattle.wdf_law.specs.Ports.{ports}
 
 -- these numbers are the step from the state with these values of the sources, and leave this state and wave
 pub record IsWorked (n : Network) (before es : List ℤ) (s : Frame) (behind : List ℤ) (w : ℤ) : Type 0 where
@@ -94,6 +95,27 @@ two_sources_frame = record {
       (forks (pos 749) (pos 19) (neg_ℤ (pos 3780608)) (pos 12587008) (pos 12275712) (ends (pos 999) (neg_ℤ (pos 230))) (ends (pos 0) (pos 768)));
 }
 
+-- a source and, in series, a capacitor against its place and an inductor and a load in parallel; in the tree the
+-- capacitor, element 2, stands before the inductor, element 1
+abbrev pub two_reactances : Outlet → Network
+two_reactances outlet = record {
+  k = 14;
+  m = 8192;
+  left = leaf 0 Src false;
+  right = series 4096 (leaf 2 Cap true) (parallel 12288 (leaf 1 Ind false) (leaf 3 Res true));
+  outlet = outlet;
+}
+
+abbrev pub two_reactances_frame : Frame
+two_reactances_frame = record {
+  b1 = neg_ℤ (pos 12337152);
+  b2 = pos 12730368;
+  left = ends (pos 777) (neg_ℤ (pos 753));
+  right = forks (neg_ℤ (pos 753)) (pos 777) (pos 6217728) (pos 6512640) (neg_ℤ (pos 12337152))
+      (ends (neg_ℤ (pos 3)) (pos 379))
+      (forks (neg_ℤ (pos 750)) (pos 397) (pos 10600448) (neg_ℤ (pos 5783552)) (neg_ℤ (pos 12288000)) (ends (neg_ℤ (pos 1000)) (pos 647)) (ends (pos 0) (neg_ℤ (pos 353))));
+}
+
 -- all of them
 pub record AreWorked : Type 0 where
   -- the capacitor's state is the down wave of the frame before
@@ -102,6 +124,16 @@ pub record AreWorked : Type 0 where
   pub inductor : IsWorked inductor_circuit (pos 3641 ∷ []) (pos 0 ∷ []) capacitor_frame (pos 1214 ∷ []) (neg_ℤ (pos 2426))
   pub series : IsWorked series_circuit [] (pos 3000 ∷ []) series_frame [] (pos 2000)
   pub flipped : IsWorked flipped_source [] (pos 16 ∷ []) flipped_frame [] (neg_ℤ (pos 16))
+  -- the states are listed by the elements' numbers, and not in the order of the tree
+  pub reactances_load : IsWorked (two_reactances (Load 3)) (pos 1000 ∷ neg_ℤ (pos 3) ∷ []) (pos 777 ∷ []) two_reactances_frame (pos 647 ∷ pos 379 ∷ []) (pos 353)
+  pub reactances_source : IsWorked (two_reactances Source) (pos 1000 ∷ neg_ℤ (pos 3) ∷ []) (pos 777 ∷ []) two_reactances_frame (pos 647 ∷ pos 379 ∷ []) (neg_ℤ (pos 753))
   -- the down wave at source 0 is -1020
   pub source_outlet : IsWorked (two_sources Source) (neg_ℤ (pos 999) ∷ []) (pos 777 ∷ neg_ℤ (pos 1001) ∷ []) two_sources_frame (neg_ℤ (pos 230) ∷ []) (pos 1020)
   pub load_outlet : IsWorked (two_sources (Load 3)) (neg_ℤ (pos 999) ∷ []) (pos 777 ∷ neg_ℤ (pos 1001) ∷ []) two_sources_frame (neg_ℤ (pos 230) ∷ []) (neg_ℤ (pos 768))
+  -- the source's port, the capacitor's and the load's: 16384·89473024 = 5461·(89473024 + 178962432) at the root, and
+  -- 178962432 = 89481216 + 89481216 at the junction
+  pub port_list : ports capacitor_circuit capacitor_frame ≡
+      record { element = record { number = 0; kind = Src; flip = false }; conductance = 89473024; up = pos 0; down = neg_ℤ (pos 2426) }
+      ∷ record { element = record { number = 1; kind = Cap; flip = false }; conductance = 89481216; up = neg_ℤ (pos 3641); down = pos 1214 }
+      ∷ record { element = record { number = 2; kind = Res; flip = false }; conductance = 89481216; up = pos 0; down = neg_ℤ (pos 2426) }
+      ∷ []
