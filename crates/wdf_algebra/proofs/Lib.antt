@@ -1,6 +1,7 @@
 pub mod Cancelling
 pub mod LinearCombinations
 pub mod ParallelJunction
+pub mod PieceLemmas
 pub mod Polynomials
 pub mod RingLaws
 pub mod RootJunction

@@ -1,4 +1,5 @@
 pub mod JunctionValues
+pub mod Pieces
 pub mod Samples
 pub mod Squares
 pub mod Truncation

@@ -1,32 +1,15 @@
 -- The samples in the bytes of a wave's data.
-use Rattle.std.proofs.Common.{◌≡◌, ℕ, zero, suc, ◌+◌, ◌*◌, ◌/◌, ◌%◌, ◌<◌, ◌≤◌, List, [], ◌∷◌, ◌++◌, length, map, take, drop, get_or, ℤ, pos, refl, ap, ◌∙◌, arith}
+use Rattle.std.proofs.Common.{◌≡◌, ℕ, ◌+◌, ◌*◌, ◌/◌, ◌%◌, ◌<◌, ◌≤◌, List, [], ◌∷◌, ◌++◌, length, map, take, drop, ℤ, pos, refl, ap, ◌∙◌, arith}
 use Rattle.std.proofs.Math.Nat.{div_self, le-div_iff_mul-le, mul-add-div_right, mul-le-mul_right}
-use Rattle.std.proofs.lemmas.List.{map-append, length-map, length-append, length-drop, nil_from_length, take-append-le, drop-append-le, take_all, drop-drop, get_or-map}
+use Rattle.std.proofs.lemmas.List.{map-append, length-map, length-append, take_all, get_or-map}
+use Rattle.wdf_algebra.specs.Pieces.{pieces}
 use Rattle.wdf_algebra.specs.Samples.{IsSampleWidth}
+use Rattle.wdf_algebra.proofs.PieceLemmas.{pieces-append, length-pieces, get_or-pieces}
 use Rattle.wdf_wav.specs.declared.head.Head.{Head}
 use Rattle.wdf_wav.specs.Header.{IsFrameFormat, block_align}
-use Rattle.wdf_wav.specs.PcmStream.{data_of, pieces, sample_at, samples_of}
+use Rattle.wdf_wav.specs.PcmStream.{data_of, sample_at, samples_of}
 use Rattle.wdf_wav.specs.SampleCoding.{sample_coding, sample_value}
 use Rattle.wdf_wav.proofs.SampleLemmas.{length-sample_coding}
-
--- the pieces of the front, and then those of the rest
-pieces-append : {X : Type 0} (count more size : ℕ) (xs ys : List X) → length xs ≡ count * size
-    → pieces (count + more) size (xs ++ ys) ≡ pieces count size xs ++ pieces more size ys
-pieces-append zero more size xs ys h =
-    let none : xs ≡ [] = nil_from_length xs (omega arith) in
-    let sum : 0 + more ≡ more = omega arith in
-    rw (none, sum) refl
-pieces-append (suc count) more size xs ys h =
-    let sum : suc count + more ≡ suc (count + more) = omega arith in
-    let inside : size ≤ length xs = omega arith in
-    let left : length (drop size xs) ≡ count * size = simp length-drop (omega arith) in
-    let rest = pieces-append count more size (drop size xs) ys left in
-    rw (sum, take-append-le size xs ys inside, drop-append-le size xs ys inside, rest) refl
-
--- there are as many pieces as were asked for
-length-pieces : {X : Type 0} (count size : ℕ) (xs : List X) → length (pieces count size xs) ≡ count
-length-pieces zero size xs = refl
-length-pieces (suc count) size xs = ap suc (length-pieces count size (drop size xs))
 
 -- a sample has at least one byte
 sample_size-pos : (bits : ℕ) → IsSampleWidth bits → 0 < bits / 8
@@ -68,15 +51,6 @@ length-data_of bits [] = omega arith
 length-data_of bits (z ∷ zs) =
     let rest = length-data_of bits zs in
     omega (arith, length-append (sample_coding bits z) (data_of bits zs), length-sample_coding bits z)
-
--- the piece of a number
-get_or-pieces : {X : Type 0} (count size k : ℕ) (xs : List X) (d : List X) → k < count → get_or (pieces count size xs) k d ≡ take size (drop (k * size) xs)
-get_or-pieces zero size k xs d h = absurd (omega arith)
-get_or-pieces (suc count) size zero xs d h = let none : 0 * size ≡ 0 = omega arith in rw none refl
-get_or-pieces (suc count) size (suc k) xs d h =
-    let later : size + k * size ≡ suc k * size = omega arith in
-    get_or-pieces count size k (drop size xs) d (omega arith)
-    ∙ ap (take size) (drop-drop (k * size) size xs ∙ ap (λ (n : ℕ). drop n xs) later)
 
 -- the sample of a channel in a whole frame
 pub sample_at_is : (head : Head) (body : List ℕ) (frame channel : ℕ) → IsFrameFormat head → (frame + 1) * block_align head ≤ length body → channel < head.channels

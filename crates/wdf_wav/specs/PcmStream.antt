@@ -1,5 +1,6 @@
 -- A wave as a stream of bytes, and the samples that its data holds.
-use Rattle.std.specs.Prelude.{◌≡◌, ℕ, zero, suc, ◌+◌, ◌*◌, ◌/◌, List, [], ◌∷◌, ◌++◌, length, map, take, drop, slice_index_or, ℤ, pos, flat_map}
+use Rattle.std.specs.Prelude.{◌≡◌, ℕ, ◌+◌, ◌*◌, ◌/◌, List, ◌++◌, length, map, slice_index_or, ℤ, pos, flat_map}
+use Rattle.wdf_algebra.specs.Pieces.{pieces}
 use Rattle.wdf_wav.specs.declared.head.Head.{Head}
 use Rattle.wdf_wav.specs.Header.{IsPcmHead, data_size, head_bytes_of}
 use Rattle.wdf_wav.specs.SampleCoding.{sample_coding, sample_value}
@@ -10,11 +11,6 @@ pub record IsPlainStream (bytes : List ℕ) (head : Head) (body rest : List ℕ)
   pub valid : IsPcmHead head
   pub parts : bytes ≡ head_bytes_of head ++ body ++ rest
   pub size : length body ≡ data_size head
-
--- the first `count` pieces of xs, each of `size` elements
-abbrev pub pieces : {X : Type 0} → ℕ → ℕ → List X → List (List X)
-pieces zero size xs = []
-pieces (suc count) size xs = take size xs ∷ pieces count size (drop size xs)
 
 -- the samples of body, one in each bits / 8 bytes:
 -- frame after frame, and in each frame channel after channel
