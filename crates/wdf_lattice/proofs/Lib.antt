@@ -1,0 +1,4 @@
+mod FrameLemmas
+mod OneWave
+mod RunLemmas
+mod WaveLemmas

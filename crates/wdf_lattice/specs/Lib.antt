@@ -1,0 +1,5 @@
+pub mod Sides
+pub mod SolvedWaves
+pub mod WaveLaws
+pub mod Waves
+pub mod WorkedWaves

@@ -1,0 +1,37 @@
+//! What the definitions of `specs/` imply: each function is a law, whose contract is proved and
+//! whose body calls laws alone.
+ghost use Rattle.wdf_lattice.specs.WaveLaws.{GoesOn, HasOneWave};
+ghost use Rattle.wdf_lattice.specs.WorkedWaves.{AreWorkedWaves};
+
+use crate::Networks;
+use wdf_law::laws::one_step;
+
+/// Samples give the output values that were worked by hand: of one channel and of five, of two
+/// sources in one run, and of lattices.
+pub fn worked_waves()
+    ensures { AreWorkedWaves }
+{}
+
+/// Samples give just one list of load waves: the runs that the definition asks for exist, and all
+/// such runs have the same waves.
+#[tactic(auto, using(crate::proofs::OneWave::one_wave_ladder, crate::proofs::OneWave::one_wave_lattice))]
+pub fn one_wave(networks: &Networks)
+    ensures { HasOneWave networks.now }
+{
+    match networks {
+        Networks::Ladder(net) => one_step(net),
+        Networks::Lattice { a, b } => {
+            one_step(a);
+            one_step(b);
+        }
+    }
+}
+
+/// However frames are cut, what follows goes on from the states that the front leaves; so the waves
+/// of whole frames are a front of those of more frames.
+#[tactic(auto, using(crate::proofs::OneWave::goes_on))]
+pub fn goes_on(networks: &Networks)
+    ensures { GoesOn networks.now }
+{
+    let _ = networks;
+}
