@@ -7,7 +7,7 @@ use Rattle.wdf_law.specs.Trees.{adaptor_tree}
 use Rattle.wdf_law.specs.Network.{numbers_of}
 use Rattle.wdf_law.specs.Marks.{marked}
 use Rattle.wdf_law.proofs.Marking.{no_marks}
-use Rattle.wdf_law.proofs.NumberFaults.{number_fault-double, number_fault-missing, length_numbers, counted_leaves}
+use Rattle.wdf_law.proofs.NumberFaults.{number_fault-double, number_fault-unmarked, counted_leaves}
 use Rattle.wdf_law.proofs.rules.number_fault.Goals as goal
 
 pub returns-in-Some-double : goal.returns-in-Some-double
@@ -26,28 +26,15 @@ missing-requires c =
 
 pub returns-in-Some-missing : goal.returns-in-Some-missing
 returns-in-Some-missing c =
-    let xs = numbers_of (adaptor_tree c.args.left.now) ++ numbers_of (adaptor_tree c.args.right.now) in
-    let n = c.leaves.result in
-    let count : n ≡ length xs = c.leaves.ensures ∙ sym (length_numbers (adaptor_tree c.args.left.now) (adaptor_tree c.args.right.now)) in
-    let marks : c.double.new.marks ≡ marked no_marks xs = rw c.in_default-double.is at c.double.ensures.marks in
-    let found : c.missing.result ≡ find (λ (i : ℕ). not (slice_index_or (marked no_marks xs) i false)) (range_with_len 0 n) =
-    c.missing.ensures ∙ ap (λ (ms : List Bool). find (λ (i : ℕ). not (slice_index_or ms i false)) (range_with_len 0 n)) marks in
-    record {
-      fault = sym (number_fault-missing xs n c.missing.result count (sym c.large.ensures ∙ c.in_default.is) (sym c.double.ensures.first ∙ c.in_default-double.is) found
-          ∙ ap (option_map (λ (e : ℕ). MissingElement e)) c.in-Some-missing.is);
-      few = tt;
-    }
+    let missing = number_fault-unmarked (adaptor_tree c.args.left.now) (adaptor_tree c.args.right.now) c.leaves.result c.double.new.marks c.missing.result c.leaves.ensures
+        (sym c.large.ensures ∙ c.in_default.is) (sym c.double.ensures.first ∙ c.in_default-double.is) (rw c.in_default-double.is at c.double.ensures.marks) c.missing.ensures in
+    record { fault = sym (missing ∙ ap (option_map (λ (e : ℕ). MissingElement e)) c.in-Some-missing.is); few = tt }
 
 pub returns-in-None : goal.returns-in-None
 returns-in-None c =
-    let xs = numbers_of (adaptor_tree c.args.left.now) ++ numbers_of (adaptor_tree c.args.right.now) in
-    let n = c.leaves.result in
-    let count : n ≡ length xs = c.leaves.ensures ∙ sym (length_numbers (adaptor_tree c.args.left.now) (adaptor_tree c.args.right.now)) in
-    let marks : c.double.new.marks ≡ marked no_marks xs = rw c.in_default-double.is at c.double.ensures.marks in
-    let found : c.missing.result ≡ find (λ (i : ℕ). not (slice_index_or (marked no_marks xs) i false)) (range_with_len 0 n) =
-    c.missing.ensures ∙ ap (λ (ms : List Bool). find (λ (i : ℕ). not (slice_index_or ms i false)) (range_with_len 0 n)) marks in
+    let missing = number_fault-unmarked (adaptor_tree c.args.left.now) (adaptor_tree c.args.right.now) c.leaves.result c.double.new.marks c.missing.result c.leaves.ensures
+        (sym c.large.ensures ∙ c.in_default.is) (sym c.double.ensures.first ∙ c.in_default-double.is) (rw c.in_default-double.is at c.double.ensures.marks) c.missing.ensures in
     record {
-      fault = sym (number_fault-missing xs n c.missing.result count (sym c.large.ensures ∙ c.in_default.is) (sym c.double.ensures.first ∙ c.in_default-double.is) found
-          ∙ ap (option_map (λ (e : ℕ). MissingElement e)) c.in-None.is);
+      fault = sym (missing ∙ ap (option_map (λ (e : ℕ). MissingElement e)) c.in-None.is);
       few = counted_leaves (adaptor_tree c.args.left.now) (adaptor_tree c.args.right.now) (sym c.large.ensures ∙ c.in_default.is) (sym c.double.ensures.first ∙ c.in_default-double.is);
     }
