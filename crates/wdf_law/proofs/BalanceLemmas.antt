@@ -11,13 +11,14 @@ use Rattle.wdf_law.specs.declared.kind.Kind.TheVariants.{Res, Cap, Ind, Src}
 use Rattle.wdf_law.specs.Trees.{AdaptorTree, leaf, series, parallel}
 use Rattle.wdf_law.specs.Network.{Network, unit_of}
 use Rattle.wdf_law.specs.Elements.{signed}
+use Rattle.wdf_law.specs.Junction.{Truncates}
 use Rattle.wdf_law.specs.Conductance.{conductance, series_first, series_second, parallel_first, parallel_second, left_factor, right_factor}
 use Rattle.wdf_law.specs.Step.{Waves, ends, forks, up_wave, down_wave, Follows, Frame, IsStep}
 use Rattle.wdf_law.specs.Energy.{if_reactance, stored_in, incident_in, absorbed_in, incident, absorbed}
 use Rattle.wdf_law.specs.Solved.{reflected}
 use Rattle.wdf_law.specs.Laws.{IsExact, AreExact, IsLossless}
 use Rattle.wdf_law.proofs.ElementLemmas.{reflects}
-use Rattle.wdf_law.proofs.Losses.{parallel_conserves, series_conserves, root_conserves, loses, loses_nothing}
+use Rattle.wdf_law.proofs.Losses.{Conserves, parallel_conserves, series_conserves, root_conserves, loses, loses_nothing}
 
 -- the sum of g·d² over the reactances, d being the wave that is sent there
 abbrev pub kept_in : ℕ → ℕ → AdaptorTree → Waves → ℕ
@@ -60,72 +61,62 @@ at_leaf q f i x e Ind flip u d h =
     let g : conductance q f (leaf i Ind flip) * square u ≡ conductance q f (leaf i Ind flip) * square (x i) = ap (λ (n : ℕ). conductance q f (leaf i Ind flip) * n) s in
     omega arith
 
--- a junction's balance, from those of its parts and from its own loss
-joined : (k1 a1 s1 i1 k2 a2 s2 i2 up1 up2 own1 down1 down2 own2 : ℕ)
-    → k1 + a1 + up1 ≤ s1 + i1 + down1 → k2 + a2 + up2 ≤ s2 + i2 + down2 → down1 + down2 + own1 ≤ up1 + up2 + own2
-    → (k1 + k2) + (a1 + a2) + own1 ≤ (s1 + s2) + (i1 + i2) + own2
-joined k1 a1 s1 i1 k2 a2 s2 i2 up1 up2 own1 down1 down2 own2 h1 h2 h = omega arith
+-- what a tree keeps and absorbs and what it reflects is at most what it had and what it was sent
+abbrev pub IsCovered : ℕ → ℕ → (ℕ → ℤ) → (ℕ → ℤ) → AdaptorTree → Waves → Type 0
+IsCovered q f x e t w =
+    kept_in q f t w + absorbed_in q f t w + conductance q f t * square (up_wave w) ≤ stored_in q x f t + incident_in q e f t + conductance q f t * square (down_wave w)
 
-joined_exactly : (k1 a1 s1 i1 k2 a2 s2 i2 up1 up2 own1 down1 down2 own2 : ℕ)
-    → k1 + a1 + up1 ≡ s1 + i1 + down1 → k2 + a2 + up2 ≡ s2 + i2 + down2 → down1 + down2 + own1 ≡ up1 + up2 + own2
-    → (k1 + k2) + (a1 + a2) + own1 ≡ (s1 + s2) + (i1 + i2) + own2
-joined_exactly k1 a1 s1 i1 k2 a2 s2 i2 up1 up2 own1 down1 down2 own2 h1 h2 h = omega arith
+-- it is just that
+abbrev pub IsBalanced : ℕ → ℕ → (ℕ → ℤ) → (ℕ → ℤ) → AdaptorTree → Waves → Type 0
+IsBalanced q f x e t w =
+    kept_in q f t w + absorbed_in q f t w + conductance q f t * square (up_wave w) ≡ stored_in q x f t + incident_in q e f t + conductance q f t * square (down_wave w)
 
-pub balance : (q f : ℕ) (x e : ℕ → ℤ) (t : AdaptorTree) (w : Waves) → 0 < q → Follows q x e f t w
-    → kept_in q f t w + absorbed_in q f t w + conductance q f t * square (up_wave w) ≤ stored_in q x f t + incident_in q e f t + conductance q f t * square (down_wave w)
+-- a junction whose parts have the factors f1 and f2, from its parts and from its own loss
+junction_covered : (q f1 f2 g : ℕ) (x e : ℕ → ℤ) (l r : AdaptorTree) (u d b1 b2 b : ℤ) (wl wr : Waves) → 0 < q
+    → Conserves q (conductance q f1 l) (conductance q f2 r) g (up_wave wl) (up_wave wr) d b1 b2 b → Truncates q u (down_wave wl) (down_wave wr) b1 b2 b
+    → IsCovered q f1 x e l wl → IsCovered q f2 x e r wr
+    → (kept_in q f1 l wl + kept_in q f2 r wr) + (absorbed_in q f1 l wl + absorbed_in q f2 r wr) + g * square u
+    ≤ (stored_in q x f1 l + stored_in q x f2 r) + (incident_in q e f1 l + incident_in q e f2 r) + g * square d
+junction_covered q f1 f2 g x e l r u d b1 b2 b wl wr unit keeps cut left right =
+    let own = loses q (conductance q f1 l) (conductance q f2 r) g (up_wave wl) (up_wave wr) d b1 b2 b u (down_wave wl) (down_wave wr) unit keeps cut in
+    omega arith
+
+junction_balanced : (q f1 f2 g : ℕ) (x e : ℕ → ℤ) (l r : AdaptorTree) (u d b1 b2 b : ℤ) (wl wr : Waves) → 0 < q
+    → Conserves q (conductance q f1 l) (conductance q f2 r) g (up_wave wl) (up_wave wr) d b1 b2 b → Truncates q u (down_wave wl) (down_wave wr) b1 b2 b
+    → IsExact q b1 → IsExact q b2 → IsExact q b → IsBalanced q f1 x e l wl → IsBalanced q f2 x e r wr
+    → (kept_in q f1 l wl + kept_in q f2 r wr) + (absorbed_in q f1 l wl + absorbed_in q f2 r wr) + g * square u
+    ≡ (stored_in q x f1 l + stored_in q x f2 r) + (incident_in q e f1 l + incident_in q e f2 r) + g * square d
+junction_balanced q f1 f2 g x e l r u d b1 b2 b wl wr unit keeps cut w1 w2 w left right =
+    let own = loses_nothing q (conductance q f1 l) (conductance q f2 r) g (up_wave wl) (up_wave wr) d b1 b2 b u (down_wave wl) (down_wave wr) unit keeps cut w1 w2 w in
+    omega arith
+
+pub balance : (q f : ℕ) (x e : ℕ → ℤ) (t : AdaptorTree) (w : Waves) → 0 < q → Follows q x e f t w → IsCovered q f x e t w
 balance q f x e (leaf i k flip) (ends u d) unit h =
     let same = at_leaf q f i x e k flip u d (reflects k flip (x i) (e i) u d h) in omega arith
 balance q f x e (leaf i k flip) (forks u d b1 b2 b wl wr) unit h = absurd h
 balance q f x e (series m l r) (ends u d) unit h = absurd h
 balance q f x e (series m l r) (forks u d b1 b2 b wl wr) unit h =
-    let g1 = conductance q (series_first q f m r) l in
-    let g2 = conductance q (series_second q f m l) r in
-    let g = conductance q f (series m l r) in
-    joined (kept_in q (series_first q f m r) l wl) (absorbed_in q (series_first q f m r) l wl) (stored_in q x (series_first q f m r) l) (incident_in q e (series_first q f m r) l)
-    (kept_in q (series_second q f m l) r wr) (absorbed_in q (series_second q f m l) r wr) (stored_in q x (series_second q f m l) r) (incident_in q e (series_second q f m l) r)
-    (g1 * square (up_wave wl)) (g2 * square (up_wave wr)) (g * square u) (g1 * square (down_wave wl)) (g2 * square (down_wave wr)) (g * square d)
-    (balance q (series_first q f m r) x e l wl unit h.2)
-    (balance q (series_second q f m l) x e r wr unit h.3)
-    (loses q g1 g2 g (up_wave wl) (up_wave wr) d b1 b2 b u (down_wave wl) (down_wave wr) unit (series_conserves q g1 g2 g (up_wave wl) (up_wave wr) d b1 b2 b h.0) h.1)
+    junction_covered q (series_first q f m r) (series_second q f m l) (conductance q f (series m l r)) x e l r u d b1 b2 b wl wr unit
+    (series_conserves q _ _ _ (up_wave wl) (up_wave wr) d b1 b2 b h.0) h.1 (balance q (series_first q f m r) x e l wl unit h.2) (balance q (series_second q f m l) x e r wr unit h.3)
 balance q f x e (parallel m l r) (ends u d) unit h = absurd h
 balance q f x e (parallel m l r) (forks u d b1 b2 b wl wr) unit h =
-    let g1 = conductance q (parallel_first q f m r) l in
-    let g2 = conductance q (parallel_second q f m l) r in
-    let g = conductance q f (parallel m l r) in
-    joined (kept_in q (parallel_first q f m r) l wl) (absorbed_in q (parallel_first q f m r) l wl) (stored_in q x (parallel_first q f m r) l) (incident_in q e (parallel_first q f m r) l)
-    (kept_in q (parallel_second q f m l) r wr) (absorbed_in q (parallel_second q f m l) r wr) (stored_in q x (parallel_second q f m l) r) (incident_in q e (parallel_second q f m l) r)
-    (g1 * square (up_wave wl)) (g2 * square (up_wave wr)) (g * square u) (g1 * square (down_wave wl)) (g2 * square (down_wave wr)) (g * square d)
-    (balance q (parallel_first q f m r) x e l wl unit h.2)
-    (balance q (parallel_second q f m l) x e r wr unit h.3)
-    (loses q g1 g2 g (up_wave wl) (up_wave wr) d b1 b2 b u (down_wave wl) (down_wave wr) unit (parallel_conserves q g1 g2 g (up_wave wl) (up_wave wr) d b1 b2 b h.0) h.1)
+    junction_covered q (parallel_first q f m r) (parallel_second q f m l) (conductance q f (parallel m l r)) x e l r u d b1 b2 b wl wr unit
+    (parallel_conserves q _ _ _ (up_wave wl) (up_wave wr) d b1 b2 b h.0) h.1 (balance q (parallel_first q f m r) x e l wl unit h.2) (balance q (parallel_second q f m l) x e r wr unit h.3)
 
 -- exactly so where q divides every value
-pub exact_balance : (q f : ℕ) (x e : ℕ → ℤ) (t : AdaptorTree) (w : Waves) → 0 < q → Follows q x e f t w → AreExact q w
-    → kept_in q f t w + absorbed_in q f t w + conductance q f t * square (up_wave w) ≡ stored_in q x f t + incident_in q e f t + conductance q f t * square (down_wave w)
+pub exact_balance : (q f : ℕ) (x e : ℕ → ℤ) (t : AdaptorTree) (w : Waves) → 0 < q → Follows q x e f t w → AreExact q w → IsBalanced q f x e t w
 exact_balance q f x e (leaf i k flip) (ends u d) unit h whole = at_leaf q f i x e k flip u d (reflects k flip (x i) (e i) u d h)
 exact_balance q f x e (leaf i k flip) (forks u d b1 b2 b wl wr) unit h whole = absurd h
 exact_balance q f x e (series m l r) (ends u d) unit h whole = absurd h
 exact_balance q f x e (series m l r) (forks u d b1 b2 b wl wr) unit h whole =
-    let g1 = conductance q (series_first q f m r) l in
-    let g2 = conductance q (series_second q f m l) r in
-    let g = conductance q f (series m l r) in
-    joined_exactly (kept_in q (series_first q f m r) l wl) (absorbed_in q (series_first q f m r) l wl) (stored_in q x (series_first q f m r) l) (incident_in q e (series_first q f m r) l)
-    (kept_in q (series_second q f m l) r wr) (absorbed_in q (series_second q f m l) r wr) (stored_in q x (series_second q f m l) r) (incident_in q e (series_second q f m l) r)
-    (g1 * square (up_wave wl)) (g2 * square (up_wave wr)) (g * square u) (g1 * square (down_wave wl)) (g2 * square (down_wave wr)) (g * square d)
-    (exact_balance q (series_first q f m r) x e l wl unit h.2 whole.3)
-    (exact_balance q (series_second q f m l) x e r wr unit h.3 whole.4)
-    (loses_nothing q g1 g2 g (up_wave wl) (up_wave wr) d b1 b2 b u (down_wave wl) (down_wave wr) unit (series_conserves q g1 g2 g (up_wave wl) (up_wave wr) d b1 b2 b h.0) h.1 whole.0 whole.1 whole.2)
+    junction_balanced q (series_first q f m r) (series_second q f m l) (conductance q f (series m l r)) x e l r u d b1 b2 b wl wr unit
+    (series_conserves q _ _ _ (up_wave wl) (up_wave wr) d b1 b2 b h.0) h.1 whole.0 whole.1 whole.2
+    (exact_balance q (series_first q f m r) x e l wl unit h.2 whole.3) (exact_balance q (series_second q f m l) x e r wr unit h.3 whole.4)
 exact_balance q f x e (parallel m l r) (ends u d) unit h whole = absurd h
 exact_balance q f x e (parallel m l r) (forks u d b1 b2 b wl wr) unit h whole =
-    let g1 = conductance q (parallel_first q f m r) l in
-    let g2 = conductance q (parallel_second q f m l) r in
-    let g = conductance q f (parallel m l r) in
-    joined_exactly (kept_in q (parallel_first q f m r) l wl) (absorbed_in q (parallel_first q f m r) l wl) (stored_in q x (parallel_first q f m r) l) (incident_in q e (parallel_first q f m r) l)
-    (kept_in q (parallel_second q f m l) r wr) (absorbed_in q (parallel_second q f m l) r wr) (stored_in q x (parallel_second q f m l) r) (incident_in q e (parallel_second q f m l) r)
-    (g1 * square (up_wave wl)) (g2 * square (up_wave wr)) (g * square u) (g1 * square (down_wave wl)) (g2 * square (down_wave wr)) (g * square d)
-    (exact_balance q (parallel_first q f m r) x e l wl unit h.2 whole.3)
-    (exact_balance q (parallel_second q f m l) x e r wr unit h.3 whole.4)
-    (loses_nothing q g1 g2 g (up_wave wl) (up_wave wr) d b1 b2 b u (down_wave wl) (down_wave wr) unit (parallel_conserves q g1 g2 g (up_wave wl) (up_wave wr) d b1 b2 b h.0) h.1 whole.0 whole.1 whole.2)
+    junction_balanced q (parallel_first q f m r) (parallel_second q f m l) (conductance q f (parallel m l r)) x e l r u d b1 b2 b wl wr unit
+    (parallel_conserves q _ _ _ (up_wave wl) (up_wave wr) d b1 b2 b h.0) h.1 whole.0 whole.1 whole.2
+    (exact_balance q (parallel_first q f m r) x e l wl unit h.2 whole.3) (exact_balance q (parallel_second q f m l) x e r wr unit h.3 whole.4)
 
 -- ---- a network
 

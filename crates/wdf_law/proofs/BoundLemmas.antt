@@ -60,6 +60,26 @@ weigh g qq t s h = let m = mul-le-mul_left g h in omega arith
 
 -- ---- a tree
 
+-- what a junction's values and its parts are bounded by
+record IsJunctionBounded (q g1 g2 g : ℕ) (u1 u2 b1 b2 b : ℤ) (e1 e2 c : ℕ) : Type 0 where
+  first : g1 * square b1 ≤ q * q * c
+  second : g2 * square b2 ≤ q * q * c
+  own : g * square b ≤ q * q * c
+  left : g1 * square (trunc b1 q) + e1 ≤ c + g1 * square u1
+  right : g2 * square (trunc b2 q) + e2 ≤ c + g2 * square u2
+
+-- a junction whose parts have e1 and e2 at hand; with a1 and a2 for its parts where it is sent nothing
+junction_bounded : (q g1 g2 g : ℕ) (u1 u2 d b1 b2 b a1 a2 : ℤ) (e1 e2 c : ℕ) → 0 < q → g1 * square u1 ≤ e1 → g2 * square u2 ≤ e2
+    → Conserves q g1 g2 g u1 u2 d b1 b2 b → Conserves q g1 g2 g u1 u2 (pos 0) a1 a2 b
+    → g * square d + (e1 + e2) ≤ c + g * square (trunc b q) → e1 + e2 ≤ c → IsJunctionBounded q g1 g2 g u1 u2 b1 b2 b e1 e2 c
+junction_bounded q g1 g2 g u1 u2 d b1 b2 b a1 a2 e1 e2 c unit h1 h2 keeps alone down_h all =
+    let lost = loses q g1 g2 g u1 u2 d b1 b2 b (trunc b q) (trunc b1 q) (trunc b2 q) unit keeps (record { first = refl; second = refl; up = refl }) in
+    let in_all = inner (q * q) (g1 * square b1) (g2 * square b2) (g * square b) (g1 * square u1) (g2 * square u2) (g * square (trunc b q))
+    (g1 * square (trunc b1 q)) (g2 * square (trunc b2 q)) (g * square d) e1 e2 c keeps (weigh g (q * q) (square (trunc b q)) (square b) (trunc-loses b q)) lost h1 h2 down_h in
+    let own = outward (q * q) (g1 * square a1) (g2 * square a2) (g * square b) (g1 * square u1) (g2 * square u2) e1 e2 c
+    (alone ∙ ap (λ (k : ℕ). q * q * (g1 * square u1 + g2 * square u2 + k)) (omega arith)) h1 h2 all in
+    record { first = in_all.first; second = in_all.second; own = own; left = in_all.left; right = in_all.right }
+
 pub bounded : (q c f : ℕ) (x e : ℕ → ℤ) (t : AdaptorTree) (d : ℤ) → 0 < q → 0 < f → IsSound q t
     → conductance q f t * square d + at_hand q x e f t ≤ c + conductance q f t * square (ups q x e t) → at_hand q x e f t ≤ c
     → AreBounded q c f t (waves q x e t d)
@@ -75,28 +95,21 @@ bounded q c f x e (series m l r) d unit some s down_h all =
     let g1 = conductance q (series_first q f m r) l in
     let g2 = conductance q (series_second q f m l) r in
     let g = conductance q f (series m l r) in
-    let e1 = at_hand q x e (series_first q f m r) l in
-    let e2 = at_hand q x e (series_second q f m l) r in
     let first = series_first-pos q f m r unit some s.1 s.3 in
     let second = series_second-pos q f m l unit some s.0 s.2 in
     let up_h = ups_bound q f x e (series m l r) unit some s in
-    let h1 : g1 * square u1 ≤ e1 = ups_bound q (series_first q f m r) x e l unit first s.2 in
-    let h2 : g2 * square u2 ≤ e2 = ups_bound q (series_second q f m l) x e r unit second s.3 in
     let laws = λ (z : ℤ). series_solved q m (q - m) g1 g2 g u1 u2 z (conductance-pos q (series_first q f m r) l unit first s.2) (whole_of q m s.1) (series_law q f m l r s.1) in
-    let keeps : Conserves q g1 g2 g u1 u2 d b1 b2 b = series_conserves q g1 g2 g u1 u2 d b1 b2 b (laws d) in
-    let alone = series_conserves q g1 g2 g u1 u2 (pos 0) (series_part q m u1 u2 (pos 0) u1) (series_part q (q - m) u1 u2 (pos 0) u2) b (laws (pos 0)) in
-    let lost = loses q g1 g2 g u1 u2 d b1 b2 b (trunc b q) (trunc b1 q) (trunc b2 q) unit keeps (record { first = refl; second = refl; up = refl }) in
-    let in_all = inner (q * q) (g1 * square b1) (g2 * square b2) (g * square b) (g1 * square u1) (g2 * square u2) (g * square (trunc b q))
-    (g1 * square (trunc b1 q)) (g2 * square (trunc b2 q)) (g * square d) e1 e2 c keeps (weigh g (q * q) (square (trunc b q)) (square b) (trunc-loses b q)) lost h1 h2 (omega arith) in
-    let own = outward (q * q) (g1 * square (series_part q m u1 u2 (pos 0) u1)) (g2 * square (series_part q (q - m) u1 u2 (pos 0) u2)) (g * square b)
-    (g1 * square u1) (g2 * square u2) e1 e2 c (alone ∙ ap (λ (k : ℕ). q * q * (g1 * square u1 + g2 * square u2 + k)) (omega arith)) h1 h2 (omega arith) in (
+    let own = junction_bounded q g1 g2 g u1 u2 d b1 b2 b (series_part q m u1 u2 (pos 0) u1) (series_part q (q - m) u1 u2 (pos 0) u2)
+    (at_hand q x e (series_first q f m r) l) (at_hand q x e (series_second q f m l) r) c unit
+    (ups_bound q (series_first q f m r) x e l unit first s.2) (ups_bound q (series_second q f m l) x e r unit second s.3)
+    (series_conserves q g1 g2 g u1 u2 d b1 b2 b (laws d)) (series_conserves q g1 g2 g u1 u2 (pos 0) _ _ b (laws (pos 0))) (omega arith) (omega arith) in (
       omega arith,
       omega arith,
-      in_all.first,
-      in_all.second,
-      own,
-      bounded q c (series_first q f m r) x e l (trunc b1 q) unit first s.2 in_all.left (omega arith),
-      bounded q c (series_second q f m l) x e r (trunc b2 q) unit second s.3 in_all.right (omega arith),
+      own.first,
+      own.second,
+      own.own,
+      bounded q c (series_first q f m r) x e l (trunc b1 q) unit first s.2 own.left (omega arith),
+      bounded q c (series_second q f m l) x e r (trunc b2 q) unit second s.3 own.right (omega arith),
     )
 bounded q c f x e (parallel m l r) d unit some s down_h all =
     let u1 = ups q x e l in
@@ -107,28 +120,21 @@ bounded q c f x e (parallel m l r) d unit some s down_h all =
     let g1 = conductance q (parallel_first q f m r) l in
     let g2 = conductance q (parallel_second q f m l) r in
     let g = conductance q f (parallel m l r) in
-    let e1 = at_hand q x e (parallel_first q f m r) l in
-    let e2 = at_hand q x e (parallel_second q f m l) r in
     let first = parallel_first-pos q f m r unit some s.0 s.3 in
     let second = parallel_second-pos q f m l unit some s.1 s.2 in
     let up_h = ups_bound q f x e (parallel m l r) unit some s in
-    let h1 : g1 * square u1 ≤ e1 = ups_bound q (parallel_first q f m r) x e l unit first s.2 in
-    let h2 : g2 * square u2 ≤ e2 = ups_bound q (parallel_second q f m l) x e r unit second s.3 in
     let laws = λ (z : ℤ). parallel_solved q m (q - m) g1 g2 g u1 u2 z (whole_of q m s.1) (parallel_law q f m l r s.1) in
-    let keeps : Conserves q g1 g2 g u1 u2 d b1 b2 b = parallel_conserves q g1 g2 g u1 u2 d b1 b2 b (laws d) in
-    let alone = parallel_conserves q g1 g2 g u1 u2 (pos 0) (parallel_part q m (q - m) u1 u2 (pos 0) u1) (parallel_part q m (q - m) u1 u2 (pos 0) u2) b (laws (pos 0)) in
-    let lost = loses q g1 g2 g u1 u2 d b1 b2 b (trunc b q) (trunc b1 q) (trunc b2 q) unit keeps (record { first = refl; second = refl; up = refl }) in
-    let in_all = inner (q * q) (g1 * square b1) (g2 * square b2) (g * square b) (g1 * square u1) (g2 * square u2) (g * square (trunc b q))
-    (g1 * square (trunc b1 q)) (g2 * square (trunc b2 q)) (g * square d) e1 e2 c keeps (weigh g (q * q) (square (trunc b q)) (square b) (trunc-loses b q)) lost h1 h2 (omega arith) in
-    let own = outward (q * q) (g1 * square (parallel_part q m (q - m) u1 u2 (pos 0) u1)) (g2 * square (parallel_part q m (q - m) u1 u2 (pos 0) u2)) (g * square b)
-    (g1 * square u1) (g2 * square u2) e1 e2 c (alone ∙ ap (λ (k : ℕ). q * q * (g1 * square u1 + g2 * square u2 + k)) (omega arith)) h1 h2 (omega arith) in (
+    let own = junction_bounded q g1 g2 g u1 u2 d b1 b2 b (parallel_part q m (q - m) u1 u2 (pos 0) u1) (parallel_part q m (q - m) u1 u2 (pos 0) u2)
+    (at_hand q x e (parallel_first q f m r) l) (at_hand q x e (parallel_second q f m l) r) c unit
+    (ups_bound q (parallel_first q f m r) x e l unit first s.2) (ups_bound q (parallel_second q f m l) x e r unit second s.3)
+    (parallel_conserves q g1 g2 g u1 u2 d b1 b2 b (laws d)) (parallel_conserves q g1 g2 g u1 u2 (pos 0) _ _ b (laws (pos 0))) (omega arith) (omega arith) in (
       omega arith,
       omega arith,
-      in_all.first,
-      in_all.second,
-      own,
-      bounded q c (parallel_first q f m r) x e l (trunc b1 q) unit first s.2 in_all.left (omega arith),
-      bounded q c (parallel_second q f m l) x e r (trunc b2 q) unit second s.3 in_all.right (omega arith),
+      own.first,
+      own.second,
+      own.own,
+      bounded q c (parallel_first q f m r) x e l (trunc b1 q) unit first s.2 own.left (omega arith),
+      bounded q c (parallel_second q f m l) x e r (trunc b2 q) unit second s.3 own.right (omega arith),
     )
 
 -- ---- a network

@@ -18,7 +18,7 @@ use Rattle.wdf_law.specs.Laws.{IsExact, AreExact, IsLossless}
 use Rattle.wdf_law.specs.TreeRules.{IsSound, HasSoundTrees}
 use Rattle.wdf_law.proofs.ConductanceLemmas.{sound_trees, conductance-pos, series_first-pos, series_second-pos, parallel_first-pos, parallel_second-pos, left_factor-pos, right_factor-pos}
 use Rattle.wdf_law.proofs.Losses.{Conserves, parallel_conserves, series_conserves, root_conserves, loses}
-use Rattle.wdf_law.proofs.BalanceLemmas.{kept_in, kept, balance, held}
+use Rattle.wdf_law.proofs.BalanceLemmas.{kept_in, kept, IsBalanced, balance, held}
 use Rattle.wdf_law.proofs.StateLemmas.{stored-after}
 
 -- ---- over natural numbers
@@ -67,11 +67,6 @@ whole_values q g1 g2 g u1 u2 d b1 b2 b u d1 d2 some1 some2 keeps cut same =
     }
 
 -- ---- a tree
-
--- the balance of a tree is exact
-abbrev IsBalanced : ℕ → ℕ → (ℕ → ℤ) → (ℕ → ℤ) → AdaptorTree → Waves → Type 0
-IsBalanced q f x e t w =
-    kept_in q f t w + absorbed_in q f t w + conductance q f t * square (up_wave w) ≡ stored_in q x f t + incident_in q e f t + conductance q f t * square (down_wave w)
 
 -- a junction whose parts have the factors f1 and f2
 whole_junction : (q f1 f2 g : ℕ) (x e : ℕ → ℤ) (l r : AdaptorTree) (u d b1 b2 b : ℤ) (wl wr : Waves) → 0 < q → 0 < f1 → 0 < f2 → 0 < g → IsSound q l → IsSound q r

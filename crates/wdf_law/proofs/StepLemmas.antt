@@ -6,7 +6,7 @@ use Rattle.wdf_algebra.specs.Truncation.{trunc}
 use Rattle.wdf_law.specs.Trees.{AdaptorTree, leaf, series, parallel}
 use Rattle.wdf_law.specs.Network.{Network, IsNetwork, unit_of}
 use Rattle.wdf_law.specs.Conductance.{conductance, series_first, series_second, parallel_first, parallel_second, left_factor, right_factor}
-use Rattle.wdf_law.specs.Junction.{IsParallel, IsSeries, IsRoot}
+use Rattle.wdf_law.specs.Junction.{IsParallel, IsSeries, IsRoot, Truncates}
 use Rattle.wdf_law.specs.Step.{Waves, ends, forks, up_wave, down_wave, Follows, Frame, IsStep, after}
 use Rattle.wdf_law.specs.Run.{states, IsRun, at_rest}
 use Rattle.wdf_law.specs.RunOutputs.{inputs, outputs}
@@ -75,6 +75,20 @@ follows q f x e (parallel m l r) d unit some s =
       follows q (parallel_second q f m l) x e r (trunc b2 q) unit second s.3,
     )
 
+-- what a junction's waves are where its parts' are the solved ones and its values are p1, p2 and p
+only_forks : (q : ℕ) (x e : ℕ → ℤ) (l r : AdaptorTree) (u d b1 b2 b p1 p2 p : ℤ) (wl wr : Waves)
+    → wl ≡ waves q x e l (down_wave wl) → wr ≡ waves q x e r (down_wave wr) → Truncates q u (down_wave wl) (down_wave wr) b1 b2 b → b1 ≡ p1 → b2 ≡ p2 → b ≡ p
+    → forks u d b1 b2 b wl wr ≡ forks (trunc p q) d p1 p2 p (waves q x e l (trunc p1 q)) (waves q x e r (trunc p2 q))
+only_forks q x e l r u d b1 b2 b p1 p2 p wl wr left right cut e1 e2 e0 =
+    let own : u ≡ trunc p q = cut.up ∙ ap (λ (v : ℤ). trunc v q) e0 in
+    let below1 : wl ≡ waves q x e l (trunc p1 q) = left ∙ ap (waves q x e l) (cut.first ∙ ap (λ (v : ℤ). trunc v q) e1) in
+    let below2 : wr ≡ waves q x e r (trunc p2 q) = right ∙ ap (waves q x e r) (cut.second ∙ ap (λ (v : ℤ). trunc v q) e2) in
+    λ i. forks (own i) d (e1 i) (e2 i) (e0 i) (below1 i) (below2 i)
+
+-- the up wave of solved waves
+up_is : (q : ℕ) (x e : ℕ → ℤ) (t : AdaptorTree) (w : Waves) → w ≡ waves q x e t (down_wave w) → up_wave w ≡ ups q x e t
+up_is q x e t w h = ap up_wave h ∙ up_wave-waves q x e t (down_wave w)
+
 -- waves that meet every law are the solved ones
 pub alone : (q f : ℕ) (x e : ℕ → ℤ) (t : AdaptorTree) (w : Waves) → 0 < q → 0 < f → IsSound q t → Follows q x e f t w → w ≡ waves q x e t (down_wave w)
 alone q f x e (leaf i k flip) (ends u d) unit some s h = ap (λ (v : ℤ). ends v d) (reflects k flip (x i) (e i) u d h)
@@ -85,39 +99,27 @@ alone q f x e (series m l r) (forks u d b1 b2 b wl wr) unit some s h =
     let second = series_second-pos q f m l unit some s.0 s.2 in
     let left = alone q (series_first q f m r) x e l wl unit first s.2 h.2 in
     let right = alone q (series_second q f m l) x e r wr unit second s.3 h.3 in
-    let u1 : up_wave wl ≡ ups q x e l = ap up_wave left ∙ up_wave-waves q x e l (down_wave wl) in
-    let u2 : up_wave wr ≡ ups q x e r = ap up_wave right ∙ up_wave-waves q x e r (down_wave wr) in
+    let u1 = up_is q x e l wl left in
+    let u2 = up_is q x e r wr right in
     let is = series_alone q m (q - m) (conductance q (series_first q f m r) l) (conductance q (series_second q f m l) r) (conductance q f (series m l r))
     (up_wave wl) (up_wave wr) d b1 b2 b unit (conductance-pos q (series_first q f m r) l unit first s.2) (conductance-pos q (series_second q f m l) r unit second s.3)
     (whole_of q m s.1) (series_law q f m l r s.1) h.0 in
-    let e1 : b1 ≡ series_part q m (ups q x e l) (ups q x e r) d (ups q x e l) = is.first ∙ (λ i. series_part q m (u1 i) (u2 i) d (u1 i)) in
-    let e2 : b2 ≡ series_part q (q - m) (ups q x e l) (ups q x e r) d (ups q x e r) = is.second ∙ (λ i. series_part q (q - m) (u1 i) (u2 i) d (u2 i)) in
-    let e0 : b ≡ series_value q (ups q x e l) (ups q x e r) = is.own ∙ (λ i. series_value q (u1 i) (u2 i)) in
-    let own : u ≡ trunc (series_value q (ups q x e l) (ups q x e r)) q = h.1.up ∙ ap (λ (v : ℤ). trunc v q) e0 in
-    let below1 : wl ≡ waves q x e l (trunc (series_part q m (ups q x e l) (ups q x e r) d (ups q x e l)) q) =
-    left ∙ ap (waves q x e l) (h.1.first ∙ ap (λ (v : ℤ). trunc v q) e1) in
-    let below2 : wr ≡ waves q x e r (trunc (series_part q (q - m) (ups q x e l) (ups q x e r) d (ups q x e r)) q) =
-    right ∙ ap (waves q x e r) (h.1.second ∙ ap (λ (v : ℤ). trunc v q) e2) in
-    λ i. forks (own i) d (e1 i) (e2 i) (e0 i) (below1 i) (below2 i)
+    only_forks q x e l r u d b1 b2 b (series_part q m (ups q x e l) (ups q x e r) d (ups q x e l)) (series_part q (q - m) (ups q x e l) (ups q x e r) d (ups q x e r))
+    (series_value q (ups q x e l) (ups q x e r)) wl wr left right h.1 (is.first ∙ (λ i. series_part q m (u1 i) (u2 i) d (u1 i)))
+    (is.second ∙ (λ i. series_part q (q - m) (u1 i) (u2 i) d (u2 i))) (is.own ∙ (λ i. series_value q (u1 i) (u2 i)))
 alone q f x e (parallel m l r) (ends u d) unit some s h = absurd h
 alone q f x e (parallel m l r) (forks u d b1 b2 b wl wr) unit some s h =
     let first = parallel_first-pos q f m r unit some s.0 s.3 in
     let second = parallel_second-pos q f m l unit some s.1 s.2 in
     let left = alone q (parallel_first q f m r) x e l wl unit first s.2 h.2 in
     let right = alone q (parallel_second q f m l) x e r wr unit second s.3 h.3 in
-    let u1 : up_wave wl ≡ ups q x e l = ap up_wave left ∙ up_wave-waves q x e l (down_wave wl) in
-    let u2 : up_wave wr ≡ ups q x e r = ap up_wave right ∙ up_wave-waves q x e r (down_wave wr) in
+    let u1 = up_is q x e l wl left in
+    let u2 = up_is q x e r wr right in
     let is = parallel_alone q m (q - m) (conductance q (parallel_first q f m r) l) (conductance q (parallel_second q f m l) r) (conductance q f (parallel m l r))
     (up_wave wl) (up_wave wr) d b1 b2 b (conductance-pos q f (parallel m l r) unit some s) (whole_of q m s.1) (parallel_law q f m l r s.1) h.0 in
-    let e1 : b1 ≡ parallel_part q m (q - m) (ups q x e l) (ups q x e r) d (ups q x e l) = is.first ∙ (λ i. parallel_part q m (q - m) (u1 i) (u2 i) d (u1 i)) in
-    let e2 : b2 ≡ parallel_part q m (q - m) (ups q x e l) (ups q x e r) d (ups q x e r) = is.second ∙ (λ i. parallel_part q m (q - m) (u1 i) (u2 i) d (u2 i)) in
-    let e0 : b ≡ parallel_value m (q - m) (ups q x e l) (ups q x e r) = is.own ∙ (λ i. parallel_value m (q - m) (u1 i) (u2 i)) in
-    let own : u ≡ trunc (parallel_value m (q - m) (ups q x e l) (ups q x e r)) q = h.1.up ∙ ap (λ (v : ℤ). trunc v q) e0 in
-    let below1 : wl ≡ waves q x e l (trunc (parallel_part q m (q - m) (ups q x e l) (ups q x e r) d (ups q x e l)) q) =
-    left ∙ ap (waves q x e l) (h.1.first ∙ ap (λ (v : ℤ). trunc v q) e1) in
-    let below2 : wr ≡ waves q x e r (trunc (parallel_part q m (q - m) (ups q x e l) (ups q x e r) d (ups q x e r)) q) =
-    right ∙ ap (waves q x e r) (h.1.second ∙ ap (λ (v : ℤ). trunc v q) e2) in
-    λ i. forks (own i) d (e1 i) (e2 i) (e0 i) (below1 i) (below2 i)
+    only_forks q x e l r u d b1 b2 b (parallel_part q m (q - m) (ups q x e l) (ups q x e r) d (ups q x e l)) (parallel_part q m (q - m) (ups q x e l) (ups q x e r) d (ups q x e r))
+    (parallel_value m (q - m) (ups q x e l) (ups q x e r)) wl wr left right h.1 (is.first ∙ (λ i. parallel_part q m (q - m) (u1 i) (u2 i) d (u1 i)))
+    (is.second ∙ (λ i. parallel_part q m (q - m) (u1 i) (u2 i) d (u2 i))) (is.own ∙ (λ i. parallel_value m (q - m) (u1 i) (u2 i)))
 
 -- ---- a network
 
