@@ -13,6 +13,7 @@ pub mod Ports
 pub mod Refusal
 pub mod RefusalOrder
 pub mod Reversal
+pub mod Roles
 pub mod Run
 pub mod RunOutputs
 pub mod Solved

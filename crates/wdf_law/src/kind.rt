@@ -1,5 +1,7 @@
 ghost use Rattle.std.specs.Prelude.{◌≡◌};
 
+use crate::role::Role;
+
 /// What an element is.
 #[derive(Clone, Copy, Debug, PartialEq, Eq)]
 pub enum Kind {
@@ -15,6 +17,7 @@ pub enum Kind {
 
 impl Kind {
     ghost use Rattle.wdf_law.specs.Network.{is_absorbing, is_resistor, is_reactance, is_source};
+    ghost use Rattle.wdf_law.specs.Roles.{is_of};
 
     /// A resistor.
     pub fn is_resistor(&self) -> bool
@@ -42,5 +45,16 @@ impl Kind {
         ensures { result ≡ is_source self.now }
     {
         matches!(self, Kind::Src)
+    }
+
+    pub(crate) fn is_of(&self, role: Role) -> bool
+        ensures { result ≡ is_of role self.now }
+    {
+        match role {
+            Role::Resistor => self.is_resistor(),
+            Role::Reactance => self.is_reactance(),
+            Role::Absorbing => self.is_absorbing(),
+            Role::Source => self.is_source(),
+        }
     }
 }

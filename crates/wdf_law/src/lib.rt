@@ -7,11 +7,13 @@
 #![tactic(auto)]
 
 mod connection;
+mod elements;
 mod kind;
 pub mod laws;
 mod net;
 mod net_error;
 mod outlet;
+mod role;
 mod rules;
 mod shape;
 mod side;

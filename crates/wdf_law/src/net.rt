@@ -6,7 +6,9 @@ ghost use Rattle.wdf_law.specs.OutputRule.{outlet_element};
 ghost use Rattle.wdf_law.specs.Refusal.{HasBadWidth, IsTooDeep, HasBadMultiplier, HasBadElement, HasDoubleElement, HasMissingElement, HasNoSource, HasTooManySources, HasNoOutlet};
 ghost use Rattle.wdf_law.specs.declared.TheConstants.{MAX_SOURCES};
 
-use crate::rules::{is_source, leaves, refused, source_behind};
+use crate::elements::{count, has, leaves, source_behind};
+use crate::role::Role;
+use crate::rules::refused;
 use crate::{NetError, Outlet, Tree};
 use std::alloc::{AllocError, Global};
 use std::marker::Model;
@@ -159,33 +161,19 @@ impl Net {
     }
 
     /// How many capacitors and inductors the network has: the length of its state.
-    #[tactic(auto, using(crate::proofs::Ranges::count_more))]
     pub fn state_count(&self) -> usize
         ensures { result ≡ length (reactances self.now) }
     {
-        let mut count = 0;
-        for i in 0..self.element_count() {
-            if self.has_reactance(i as u32) {
-                count += 1;
-            }
-        }
-        count
+        count(&self.left, &self.right, Role::Reactance)
     }
 
     /// How many sources the network has: the length of its input.
-    #[tactic(auto, using(crate::proofs::Ranges::count_more))]
     pub fn source_count(&self) -> usize
         ensures count { result ≡ length (source_numbers self.now) }
         ensures some { 1 ≤ result }
         ensures few { result ≤ MAX_SOURCES }
     {
-        let mut count = 0;
-        for i in 0..self.element_count() {
-            if is_source(&self.left, &self.right, i as u32) {
-                count += 1;
-            }
-        }
-        count
+        count(&self.left, &self.right, Role::Source)
     }
 
     /// The element that is source `i`, where there is one.
@@ -228,19 +216,17 @@ impl Net {
     }
 
     /// Whether a capacitor or an inductor has this number.
-    #[tactic(auto, using(crate::proofs::Walks::walks))]
     pub fn has_reactance(&self, number: u32) -> bool
         ensures { result ≡ has_reactance (elements self.now) number }
     {
-        self.left.has_reactance(number) || self.right.has_reactance(number)
+        has(&self.left, &self.right, Role::Reactance, number)
     }
 
     /// Whether a resistor or a source has this number.
-    #[tactic(auto, using(crate::proofs::Walks::walks))]
     pub fn has_absorbing(&self, number: u32) -> bool
         ensures { result ≡ has_absorbing (elements self.now) number }
     {
-        self.left.has_absorbing(number) || self.right.has_absorbing(number)
+        has(&self.left, &self.right, Role::Absorbing, number)
     }
 
     /// What the type of every network keeps.

@@ -7,6 +7,8 @@ ghost use Rattle.wdf_law.specs.Refusal.{first_out, first_large};
 ghost use Rattle.wdf_law.specs.RefusalOrder.{refusal, number_fault, source_fault};
 ghost use Rattle.wdf_law.specs.Marks.{first_marked, marked};
 
+use crate::elements::{has, leaves, source_behind};
+use crate::role::Role;
 use crate::{MAX_SOURCES, NetError, Outlet, Tree};
 
 // The first leaf of the first adaptor whose multiplier is not in 1..=q-1, the root first.
@@ -58,42 +60,6 @@ fn missing(marks: &[bool; 128], count: usize) -> Option<u32>
     None
 }
 
-// How many leaves two trees have.
-#[tactic(auto, using(crate::proofs::Counts::counts_of))]
-pub(crate) fn leaves(left: &Tree, right: &Tree) -> usize
-    requires { length (elements_of (adaptor_tree left.now) ++ elements_of (adaptor_tree right.now)) ≤ 128 }
-    ensures { result ≡ length (elements_of (adaptor_tree left.now) ++ elements_of (adaptor_tree right.now)) }
-{
-    left.leaf_count() + right.leaf_count()
-}
-
-// Whether a source of two trees has this number.
-#[tactic(auto, using(crate::proofs::Walks::walks))]
-pub(crate) fn is_source(left: &Tree, right: &Tree, number: u32) -> bool
-    ensures { result ≡ has_source (elements_of (adaptor_tree left.now) ++ elements_of (adaptor_tree right.now)) number }
-{
-    left.has_source(number) || right.has_source(number)
-}
-
-// The number of the source behind `skip` others, in the order of the numbers.
-#[tactic(auto, using(crate::proofs::Ranges::count_more, crate::proofs::Ranges::passing_at))]
-pub(crate) fn source_behind(left: &Tree, right: &Tree, skip: usize) -> Option<u32>
-    requires { length (elements_of (adaptor_tree left.now) ++ elements_of (adaptor_tree right.now)) ≤ 128 }
-    ensures { result ≡ slice_get (numbers_with has_source (elements_of (adaptor_tree left.now) ++ elements_of (adaptor_tree right.now))) skip }
-{
-    let mut before = 0;
-    for i in 0..leaves(left, right) {
-        if !is_source(left, right, i as u32) {
-            continue;
-        }
-        if before == skip {
-            return Some(i as u32);
-        }
-        before += 1;
-    }
-    None
-}
-
 // No source, or one too many.
 #[tactic(auto, using(crate::proofs::Sources::source_faults))]
 fn source(left: &Tree, right: &Tree) -> Option<NetError>
@@ -114,7 +80,7 @@ fn outlet_stands(left: &Tree, right: &Tree, outlet: Outlet) -> bool
     ensures { result ≡ has_outlet (elements_of (adaptor_tree left.now) ++ elements_of (adaptor_tree right.now)) outlet }
 {
     match outlet {
-        Outlet::Load(number) => left.has_resistor(number) || right.has_resistor(number),
+        Outlet::Load(number) => has(left, right, Role::Resistor, number),
         Outlet::Source => true,
     }
 }

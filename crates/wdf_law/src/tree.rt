@@ -1,10 +1,12 @@
 ghost use Rattle.std.specs.Prelude.{◌≡◌, ◌≤◌, length, nat_le, IfNone, IfOk};
 ghost use Rattle.wdf_law.specs.Trees.{adaptor_tree, depth_of, elements_of, first_of};
-ghost use Rattle.wdf_law.specs.Network.{adaptors_of, multipliers_of, numbers_of, has_resistor, has_reactance, has_absorbing, has_source};
+ghost use Rattle.wdf_law.specs.Network.{adaptors_of, multipliers_of, numbers_of, has_kind};
+ghost use Rattle.wdf_law.specs.Roles.{is_of};
 ghost use Rattle.wdf_law.specs.Refusal.{first_out, first_large};
 ghost use Rattle.wdf_law.specs.Marks.{first_marked, marked, number_behind};
 
 use crate::Kind;
+use crate::role::Role;
 use std::alloc::{AllocError, Global};
 
 /// A tree of adaptors. A multiplier `m` stands for `m/2^k`, with the width `k` of its network.
@@ -168,54 +170,15 @@ impl Tree {
         }
     }
 
-    // Whether a resistor has this number.
+    // Whether an element of this role has this number.
     #[tactic(auto, using(crate::proofs::Walks::walks))]
-    pub(crate) fn has_resistor(&self, number: u32) -> bool
-        ensures { result ≡ has_resistor (elements_of (adaptor_tree self.now)) number }
+    pub(crate) fn has(&self, role: Role, number: u32) -> bool
+        ensures { result ≡ has_kind (is_of role) (elements_of (adaptor_tree self.now)) number }
     {
         match self {
-            Tree::Leaf { elem, kind, .. } => *elem == number && kind.is_resistor(),
+            Tree::Leaf { elem, kind, .. } => *elem == number && kind.is_of(role),
             Tree::Series { l, r, .. } | Tree::Parallel { l, r, .. } => {
-                l.has_resistor(number) || r.has_resistor(number)
-            }
-        }
-    }
-
-    // Whether a resistor or a source has this number.
-    #[tactic(auto, using(crate::proofs::Walks::walks))]
-    pub(crate) fn has_absorbing(&self, number: u32) -> bool
-        ensures { result ≡ has_absorbing (elements_of (adaptor_tree self.now)) number }
-    {
-        match self {
-            Tree::Leaf { elem, kind, .. } => *elem == number && kind.is_absorbing(),
-            Tree::Series { l, r, .. } | Tree::Parallel { l, r, .. } => {
-                l.has_absorbing(number) || r.has_absorbing(number)
-            }
-        }
-    }
-
-    // Whether a capacitor or an inductor has this number.
-    #[tactic(auto, using(crate::proofs::Walks::walks))]
-    pub(crate) fn has_reactance(&self, number: u32) -> bool
-        ensures { result ≡ has_reactance (elements_of (adaptor_tree self.now)) number }
-    {
-        match self {
-            Tree::Leaf { elem, kind, .. } => *elem == number && kind.is_reactance(),
-            Tree::Series { l, r, .. } | Tree::Parallel { l, r, .. } => {
-                l.has_reactance(number) || r.has_reactance(number)
-            }
-        }
-    }
-
-    // Whether a source has this number.
-    #[tactic(auto, using(crate::proofs::Walks::walks))]
-    pub(crate) fn has_source(&self, number: u32) -> bool
-        ensures { result ≡ has_source (elements_of (adaptor_tree self.now)) number }
-    {
-        match self {
-            Tree::Leaf { elem, kind, .. } => *elem == number && kind.is_source(),
-            Tree::Series { l, r, .. } | Tree::Parallel { l, r, .. } => {
-                l.has_source(number) || r.has_source(number)
+                l.has(role, number) || r.has(role, number)
             }
         }
     }

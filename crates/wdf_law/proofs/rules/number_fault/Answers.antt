@@ -1,12 +1,9 @@
 -- What the walks with marks find is the first rule of the numbers that is broken.
-use Rattle.std.proofs.Common.{◌≡◌, ◌++◌, length, sym, ◌∙◌, ap, slice_index_or, not, false, ℕ, List, Bool, arith}
+use Rattle.std.proofs.Common.{◌++◌, sym, ◌∙◌, ap, ℕ, arith}
 use Rattle.std.specs.Option.{option_map}
 use Rattle.wdf_law.specs.declared.net_error.NetError.TheVariants.{MissingElement}
-use Rattle.std.specs.List.{find, range_with_len}
 use Rattle.wdf_law.specs.Trees.{adaptor_tree}
 use Rattle.wdf_law.specs.Network.{numbers_of}
-use Rattle.wdf_law.specs.Marks.{marked}
-use Rattle.wdf_law.proofs.Marking.{no_marks}
 use Rattle.wdf_law.proofs.NumberFaults.{number_fault-double, number_fault-unmarked, counted_leaves}
 use Rattle.wdf_law.proofs.rules.number_fault.Goals as goal
 
@@ -27,13 +24,13 @@ missing-requires c =
 pub returns-in-Some-missing : goal.returns-in-Some-missing
 returns-in-Some-missing c =
     let missing = number_fault-unmarked (adaptor_tree c.args.left.now) (adaptor_tree c.args.right.now) c.leaves.result c.double.new.marks c.missing.result c.leaves.ensures
-        (sym c.large.ensures ∙ c.in_default.is) (sym c.double.ensures.first ∙ c.in_default-double.is) (rw c.in_default-double.is at c.double.ensures.marks) c.missing.ensures in
+    (sym c.large.ensures ∙ c.in_default.is) (sym c.double.ensures.first ∙ c.in_default-double.is) (rw c.in_default-double.is at c.double.ensures.marks) c.missing.ensures in
     record { fault = sym (missing ∙ ap (option_map (λ (e : ℕ). MissingElement e)) c.in-Some-missing.is); few = tt }
 
 pub returns-in-None : goal.returns-in-None
 returns-in-None c =
     let missing = number_fault-unmarked (adaptor_tree c.args.left.now) (adaptor_tree c.args.right.now) c.leaves.result c.double.new.marks c.missing.result c.leaves.ensures
-        (sym c.large.ensures ∙ c.in_default.is) (sym c.double.ensures.first ∙ c.in_default-double.is) (rw c.in_default-double.is at c.double.ensures.marks) c.missing.ensures in
+    (sym c.large.ensures ∙ c.in_default.is) (sym c.double.ensures.first ∙ c.in_default-double.is) (rw c.in_default-double.is at c.double.ensures.marks) c.missing.ensures in
     record {
       fault = sym (missing ∙ ap (option_map (λ (e : ℕ). MissingElement e)) c.in-None.is);
       few = counted_leaves (adaptor_tree c.args.left.now) (adaptor_tree c.args.right.now) (sym c.large.ensures ∙ c.in_default.is) (sym c.double.ensures.first ∙ c.in_default-double.is);
