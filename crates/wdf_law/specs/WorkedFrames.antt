@@ -8,7 +8,8 @@ use Rattle.wdf_law.specs.Network.{Network}
 use Rattle.wdf_law.specs.Step.{ends, forks, Frame, IsStep, after}
 use Rattle.wdf_law.specs.Run.{states, source_values}
 use Rattle.wdf_law.specs.OutputRule.{load_wave}
-use Rattle.wdf_law.specs.Ports.{ports}
+use Rattle.wdf_law.specs.Ports.{ports, source_conductance}
+use Rattle.wdf_law.specs.Energy.{stored, incident, absorbed, taken}
 
 -- these numbers are the step from the state with these values of the sources, and leave this state and wave
 pub record IsWorked (n : Network) (before es : List ℤ) (s : Frame) (behind : List ℤ) (w : ℤ) : Type 0 where
@@ -116,6 +117,19 @@ two_reactances_frame = record {
       (forks (neg_ℤ (pos 750)) (pos 397) (pos 10600448) (neg_ℤ (pos 5783552)) (neg_ℤ (pos 12288000)) (ends (neg_ℤ (pos 1000)) (pos 647)) (ends (pos 0) (neg_ℤ (pos 353))));
 }
 
+-- the energies of these frames, as products of a conductance and the square of a wave
+pub record AreWeighed : Type 0 where
+  -- 89481216·3641² before the capacitor's frame and 89481216·1214² after it
+  pub stored_before : stored capacitor_circuit (neg_ℤ (pos 3641) ∷ []) ≡ 1186241832247296
+  pub stored_after : stored capacitor_circuit (after capacitor_circuit capacitor_frame) ≡ 131877058215936
+  -- 89481216·2426² at the load, and with 89473024·2426² at the source
+  pub taken_by_load : taken capacitor_circuit 2 capacitor_frame ≡ 526639549218816
+  pub taken_by_capacitor : taken capacitor_circuit 1 capacitor_frame ≡ 0
+  pub all_absorbed : absorbed capacitor_circuit capacitor_frame ≡ 1053230884618240
+  -- 27021597764222976·777² + 6755399441055744·1001² at two sources
+  pub two_conductances : source_conductance (two_sources Source) ≡ 33776997205278720
+  pub two_incident : incident (two_sources Source) (source_values (two_sources Source) (pos 777 ∷ neg_ℤ (pos 1001) ∷ [])) ≡ 23082639191933869621248
+
 -- all of them
 pub record AreWorked : Type 0 where
   -- the capacitor's state is the down wave of the frame before
@@ -137,3 +151,4 @@ pub record AreWorked : Type 0 where
       ∷ record { element = record { number = 1; kind = Cap; flip = false }; conductance = 89481216; up = neg_ℤ (pos 3641); down = pos 1214 }
       ∷ record { element = record { number = 2; kind = Res; flip = false }; conductance = 89481216; up = pos 0; down = neg_ℤ (pos 2426) }
       ∷ []
+  pub energies : AreWeighed

@@ -105,4 +105,13 @@ returns c = record {
   source_outlet = record { step = two_sources_step Source; after = refl; wave = refl };
   load_outlet = record { step = two_sources_step (Load 3); after = refl; wave = refl };
   port_list = refl;
+  energies = record {
+    stored_before = refl;
+    stored_after = refl;
+    taken_by_load = refl;
+    taken_by_capacitor = refl;
+    all_absorbed = refl;
+    two_conductances = refl;
+    two_incident = refl;
+  };
 }
