@@ -5,6 +5,7 @@ pub mod ConductanceLemmas
 pub mod Counts
 pub mod ElementLemmas
 pub mod EnergyLemmas
+pub mod EnergySums
 pub mod JunctionLemmas
 pub mod Losses
 pub mod LosslessLemmas

@@ -1,5 +1,5 @@
 -- The ports of a step are those that the network has at the elements' numbers, and the energies are sums over them.
-use Rattle.std.proofs.Common.{◌≡◌, ℕ, ◌+◌, ◌*◌, ◌<◌, Bool, true, false, ◌==◌, ◌||◌, cond, if◌then◌else◌, List, [], ◌∷◌, ◌++◌, map, length, refl, ap, sym, ◌∙◌, arith}
+use Rattle.std.proofs.Common.{◌≡◌, ℕ, ◌*◌, ◌<◌, Bool, true, false, ◌==◌, ◌||◌, cond, if◌then◌else◌, List, [], ◌∷◌, ◌++◌, map, length, refl, ap, sym, ◌∙◌, arith}
 use Rattle.std.specs.Prelude.{filter}
 use Rattle.std.specs.List.{range_with_len, sum_by}
 use Rattle.std.proofs.Math.Nat.{mul-le-mul, mul-le-mul_left}
@@ -9,19 +9,18 @@ use Rattle.std.proofs.lemmas.List.Folds.{list_any-append}
 use lib.IntN.{ℤ, pos}
 use Rattle.wdf_algebra.specs.Squares.{square}
 use Rattle.wdf_law.specs.declared.kind.Kind.{Kind}
-use Rattle.wdf_law.specs.declared.kind.Kind.TheVariants.{Res, Cap, Ind, Src}
 use Rattle.wdf_law.specs.Trees.{AdaptorTree, leaf, series, parallel, LeafElement, elements_of}
 use Rattle.wdf_law.specs.Network.{Network, IsNetwork, unit_of, elements, is_source, is_reactance, is_absorbing, has_element, has_kind, has_leaf, has_source, source_numbers}
 use Rattle.wdf_law.specs.Conductance.{conductance, series_first, series_second, parallel_first, parallel_second, left_factor, right_factor}
 use Rattle.wdf_law.specs.Step.{Waves, ends, forks, Follows, Frame, IsStep, sent, sent_in}
 use Rattle.wdf_law.specs.Run.{states}
-use Rattle.wdf_law.specs.Energy.{if_reactance, if_source, if_absorbing, stored_in, incident_in, absorbed_in, stored, incident, absorbed}
 use Rattle.wdf_law.specs.TreeRules.{IsSound, AreDisjoint, HasDistinctLeaves}
 use Rattle.wdf_law.specs.Ports.{Port, ports_of, ports, leaf_conductance, conductance_at, leaf_up_wave, port_at}
 use Rattle.wdf_law.specs.PortLaws.{HasPorts}
 use Rattle.wdf_law.proofs.ConductanceLemmas.{sound_trees, conductance-pos, series_first-pos, series_second-pos, parallel_first-pos, parallel_second-pos, left_factor-pos, right_factor-pos}
 use Rattle.wdf_law.proofs.NumberLemmas.{kind_among, numbers_once, numbers_every, disjoint_trees, distinct_left, distinct_right}
-use Rattle.wdf_law.proofs.SumLemmas.{over, over-append, over-same, over-numbers, number_first, number_later, sum-le, sum-times, sum-pos}
+use Rattle.wdf_law.proofs.SumLemmas.{over, over-numbers, number_first, number_later, sum-le, sum-times, sum-pos}
+use Rattle.wdf_law.proofs.EnergySums.{energy_over, sent_energy_over}
 
 -- ---- the list
 
@@ -29,44 +28,28 @@ use Rattle.wdf_law.proofs.SumLemmas.{over, over-append, over-same, over-numbers,
 abbrev port_of : ℕ → ℕ → AdaptorTree → Waves → LeafElement → Port
 port_of q f t w y = record { element = y; conductance = leaf_conductance q y.number f t; up = leaf_up_wave t w y.number; down = sent t w y.number }
 
--- and of two trees
-abbrev port_among : ℕ → ℕ → ℕ → AdaptorTree → AdaptorTree → Waves → Waves → LeafElement → Port
-port_among q f1 f2 l r wl wr y = record {
+-- and of two trees, where it is known whether it is one of the first
+abbrev port_if : Bool → ℕ → ℕ → ℕ → AdaptorTree → AdaptorTree → Waves → Waves → LeafElement → Port
+port_if b q f1 f2 l r wl wr y = record {
   element = y;
-  conductance = if has_leaf l y.number then leaf_conductance q y.number f1 l else leaf_conductance q y.number f2 r;
-  up = if has_leaf l y.number then leaf_up_wave l wl y.number else leaf_up_wave r wr y.number;
-  down = if has_leaf l y.number then sent l wl y.number else sent r wr y.number;
+  conductance = if b then leaf_conductance q y.number f1 l else leaf_conductance q y.number f2 r;
+  up = if b then leaf_up_wave l wl y.number else leaf_up_wave r wr y.number;
+  down = if b then sent l wl y.number else sent r wr y.number;
 }
 
 same_map : {A : Type 0} (f g : LeafElement → A) (xs : List LeafElement) → ((y : LeafElement) → has_element xs y.number ≡ true → f y ≡ g y) → map f xs ≡ map g xs
 same_map f g [] h = refl
 same_map f g (x ∷ xs) h = λ j. h x (number_first x xs) j ∷ same_map f g xs (λ y there. h y (number_later x xs y.number there)) j
 
--- the elements of the first tree and of the second
-first_port : (q f1 f2 : ℕ) (l r : AdaptorTree) (wl wr : Waves) (y : LeafElement) → has_leaf l y.number ≡ true → port_among q f1 f2 l r wl wr y ≡ port_of q f1 l wl y
-first_port q f1 f2 l r wl wr y h = ap (λ (b : Bool). record {
-  element = y;
-  conductance = if b then leaf_conductance q y.number f1 l else leaf_conductance q y.number f2 r;
-  up = if b then leaf_up_wave l wl y.number else leaf_up_wave r wr y.number;
-  down = if b then sent l wl y.number else sent r wr y.number;
-}) h
-
-second_port : (q f1 f2 : ℕ) (l r : AdaptorTree) (wl wr : Waves) (y : LeafElement) → has_leaf l y.number ≡ false → port_among q f1 f2 l r wl wr y ≡ port_of q f2 r wr y
-second_port q f1 f2 l r wl wr y h = ap (λ (b : Bool). record {
-  element = y;
-  conductance = if b then leaf_conductance q y.number f1 l else leaf_conductance q y.number f2 r;
-  up = if b then leaf_up_wave l wl y.number else leaf_up_wave r wr y.number;
-  down = if b then sent l wl y.number else sent r wr y.number;
-}) h
-
 -- the ports of two trees, from those of each
 ports_among : (q f1 f2 : ℕ) (l r : AdaptorTree) (wl wr : Waves) → AreDisjoint l r
     → ports_of q f1 l wl ≡ map (port_of q f1 l wl) (elements_of l) → ports_of q f2 r wr ≡ map (port_of q f2 r wr) (elements_of r)
-    → ports_of q f1 l wl ++ ports_of q f2 r wr ≡ map (port_among q f1 f2 l r wl wr) (elements_of l ++ elements_of r)
+    → ports_of q f1 l wl ++ ports_of q f2 r wr ≡ map (λ (y : LeafElement). port_if (has_leaf l y.number) q f1 f2 l r wl wr y) (elements_of l ++ elements_of r)
 ports_among q f1 f2 l r wl wr disjoint left right =
-    let first = left ∙ sym (same_map (port_among q f1 f2 l r wl wr) (port_of q f1 l wl) (elements_of l) (first_port q f1 f2 l r wl wr)) in
-    let second = right ∙ sym (same_map (port_among q f1 f2 l r wl wr) (port_of q f2 r wr) (elements_of r) (λ y h. second_port q f1 f2 l r wl wr y (disjoint y.number h))) in
-    (λ j. first j ++ second j) ∙ sym (map-append (port_among q f1 f2 l r wl wr) (elements_of l) (elements_of r))
+    let among : LeafElement → Port = λ y. port_if (has_leaf l y.number) q f1 f2 l r wl wr y in
+    let first = left ∙ sym (same_map among (port_of q f1 l wl) (elements_of l) (λ y h. ap (λ (b : Bool). port_if b q f1 f2 l r wl wr y) h)) in
+    let second = right ∙ sym (same_map among (port_of q f2 r wr) (elements_of r) (λ y h. ap (λ (b : Bool). port_if b q f1 f2 l r wl wr y) (disjoint y.number h))) in
+    (λ j. first j ++ second j) ∙ sym (map-append among (elements_of l) (elements_of r))
 
 ports-are : (q f : ℕ) (x e : ℕ → ℤ) (t : AdaptorTree) (w : Waves) → HasDistinctLeaves t → Follows q x e f t w → ports_of q f t w ≡ map (port_of q f t w) (elements_of t)
 ports-are q f x e (leaf i k flip) (ends u d) once h = ap (λ (b : Bool). record {
@@ -96,119 +79,7 @@ port_elements : (n : Network) (s : Frame) (xs : List LeafElement) → map (λ (p
 port_elements n s [] = refl
 port_elements n s (x ∷ xs) = ap (λ (ys : List LeafElement). x ∷ ys) (port_elements n s xs)
 
--- ---- energies along the leaves
-
--- g·z² at the port of an element of a tree
-abbrev weighed : ℕ → ℕ → AdaptorTree → (ℕ → ℤ) → ℕ → ℕ
-weighed q f t z i = leaf_conductance q i f t * square (z i)
-
--- and of two trees
-abbrev weighed_among : ℕ → ℕ → ℕ → AdaptorTree → AdaptorTree → (ℕ → ℤ) → (ℕ → ℤ) → ℕ → ℕ
-weighed_among q f1 f2 l r z1 z2 i =
-    (if has_leaf l i then leaf_conductance q i f1 l else leaf_conductance q i f2 r) * square (if has_leaf l i then z1 i else z2 i)
-
--- one sum over two trees is the sum of theirs
-sums_among : (is : Kind → Bool) (q f1 f2 : ℕ) (l r : AdaptorTree) (z1 z2 : ℕ → ℤ) → AreDisjoint l r
-    → over is (weighed_among q f1 f2 l r z1 z2) (elements_of l ++ elements_of r) ≡ over is (weighed q f1 l z1) (elements_of l) + over is (weighed q f2 r z2) (elements_of r)
-sums_among is q f1 f2 l r z1 z2 disjoint =
-    let all = weighed_among q f1 f2 l r z1 z2 in
-    let first = over-same is all (weighed q f1 l z1) (elements_of l) (λ i h. by i h) in
-    let second = over-same is all (weighed q f2 r z2) (elements_of r) (λ i h. by i (disjoint i h)) in
-    over-append is all (elements_of l) (elements_of r) ∙ (λ j. first j + second j)
-  where
-    by : {b : Bool} (i : ℕ) → has_leaf l i ≡ b
-        → weighed_among q f1 f2 l r z1 z2 i ≡ (if b then leaf_conductance q i f1 l else leaf_conductance q i f2 r) * square (if b then z1 i else z2 i)
-    by i h = ap (λ (b : Bool). (if b then leaf_conductance q i f1 l else leaf_conductance q i f2 r) * square (if b then z1 i else z2 i)) h
-
--- the same value on both sides
-same_among : (is : Kind → Bool) (q f1 f2 : ℕ) (l r : AdaptorTree) (z : ℕ → ℤ) → AreDisjoint l r
-    → over is (λ (i : ℕ). (if has_leaf l i then leaf_conductance q i f1 l else leaf_conductance q i f2 r) * square (z i)) (elements_of l ++ elements_of r)
-    ≡ over is (weighed q f1 l z) (elements_of l) + over is (weighed q f2 r z) (elements_of r)
-same_among is q f1 f2 l r z disjoint =
-    over-same is _ (weighed_among q f1 f2 l r z z) (elements_of l ++ elements_of r) (λ i h. one i (has_leaf l i)) ∙ sums_among is q f1 f2 l r z z disjoint
-  where
-    one : (i : ℕ) (b : Bool) → (if has_leaf l i then leaf_conductance q i f1 l else leaf_conductance q i f2 r) * square (z i)
-        ≡ (if has_leaf l i then leaf_conductance q i f1 l else leaf_conductance q i f2 r) * square (if b then z i else z i)
-    one i true = refl
-    one i false = refl
-
--- at a leaf
-at_leaf : (q f i : ℕ) (k : Kind) (flip : Bool) (z : ℤ) → (if i == i then conductance q f (leaf i k flip) else 0) * square z ≡ conductance q f (leaf i k flip) * square z
-at_leaf q f i k flip z = ap (λ (b : Bool). (if b then conductance q f (leaf i k flip) else 0) * square z) (eq-eqb i i refl)
-
-stored-over : (q f : ℕ) (x : ℕ → ℤ) (t : AdaptorTree) → HasDistinctLeaves t → stored_in q x f t ≡ over is_reactance (weighed q f t x) (elements_of t)
-stored-over q f x (leaf i k flip) once = by k
-  where
-    by : (k : Kind) → if_reactance k (conductance q f (leaf i k flip) * square (x i))
-        ≡ (if is_reactance k then (if i == i then conductance q f (leaf i k flip) else 0) * square (x i) else 0) + 0
-    by Res = refl
-    by Src = refl
-    by Cap = let e = at_leaf q f i Cap flip (x i) in omega arith
-    by Ind = let e = at_leaf q f i Ind flip (x i) in omega arith
-stored-over q f x (series m l r) once =
-    (λ j. stored-over q (series_first q f m r) x l once.1 j + stored-over q (series_second q f m l) x r once.2 j)
-    ∙ sym (same_among is_reactance q (series_first q f m r) (series_second q f m l) l r x once.0)
-stored-over q f x (parallel m l r) once =
-    (λ j. stored-over q (parallel_first q f m r) x l once.1 j + stored-over q (parallel_second q f m l) x r once.2 j)
-    ∙ sym (same_among is_reactance q (parallel_first q f m r) (parallel_second q f m l) l r x once.0)
-
-incident-over : (q f : ℕ) (e : ℕ → ℤ) (t : AdaptorTree) → HasDistinctLeaves t → incident_in q e f t ≡ over is_source (weighed q f t e) (elements_of t)
-incident-over q f e (leaf i k flip) once = by k
-  where
-    by : (k : Kind) → if_source k (conductance q f (leaf i k flip) * square (e i))
-        ≡ (if is_source k then (if i == i then conductance q f (leaf i k flip) else 0) * square (e i) else 0) + 0
-    by Src = let h = at_leaf q f i Src flip (e i) in omega arith
-    by Res = refl
-    by Cap = refl
-    by Ind = refl
-incident-over q f e (series m l r) once =
-    (λ j. incident-over q (series_first q f m r) e l once.1 j + incident-over q (series_second q f m l) e r once.2 j)
-    ∙ sym (same_among is_source q (series_first q f m r) (series_second q f m l) l r e once.0)
-incident-over q f e (parallel m l r) once =
-    (λ j. incident-over q (parallel_first q f m r) e l once.1 j + incident-over q (parallel_second q f m l) e r once.2 j)
-    ∙ sym (same_among is_source q (parallel_first q f m r) (parallel_second q f m l) l r e once.0)
-
-absorbed-over : (q f : ℕ) (x e : ℕ → ℤ) (t : AdaptorTree) (w : Waves) → HasDistinctLeaves t → Follows q x e f t w
-    → absorbed_in q f t w ≡ over is_absorbing (weighed q f t (sent t w)) (elements_of t)
-absorbed-over q f x e (leaf i k flip) (ends u d) once h = by k
-  where
-    here : (k : Kind) → (if i == i then conductance q f (leaf i k flip) else 0) * square (if i == i then d else pos 0) ≡ conductance q f (leaf i k flip) * square d
-    here k = ap (λ (b : Bool). (if b then conductance q f (leaf i k flip) else 0) * square (if b then d else pos 0)) (eq-eqb i i refl)
-
-    by : (k : Kind) → if_absorbing k (conductance q f (leaf i k flip) * square d)
-        ≡ (if is_absorbing k then (if i == i then conductance q f (leaf i k flip) else 0) * square (if i == i then d else pos 0) else 0) + 0
-    by Res = let e = here Res in omega arith
-    by Src = let e = here Src in omega arith
-    by Cap = refl
-    by Ind = refl
-absorbed-over q f x e (leaf i k flip) (forks u d b1 b2 b wl wr) once h = absurd h
-absorbed-over q f x e (series m l r) (ends u d) once h = absurd h
-absorbed-over q f x e (series m l r) (forks u d b1 b2 b wl wr) once h =
-    (λ j. absorbed-over q (series_first q f m r) x e l wl once.1 h.2 j + absorbed-over q (series_second q f m l) x e r wr once.2 h.3 j)
-    ∙ sym (sums_among is_absorbing q (series_first q f m r) (series_second q f m l) l r (sent l wl) (sent r wr) once.0)
-absorbed-over q f x e (parallel m l r) (ends u d) once h = absurd h
-absorbed-over q f x e (parallel m l r) (forks u d b1 b2 b wl wr) once h =
-    (λ j. absorbed-over q (parallel_first q f m r) x e l wl once.1 h.2 j + absorbed-over q (parallel_second q f m l) x e r wr once.2 h.3 j)
-    ∙ sym (sums_among is_absorbing q (parallel_first q f m r) (parallel_second q f m l) l r (sent l wl) (sent r wr) once.0)
-
--- ---- a network
-
-stored_over : (n : Network) → IsNetwork n → (zs : List ℤ) → stored n zs ≡ over is_reactance (λ (i : ℕ). conductance_at n i * square (states n zs i)) (elements n)
-stored_over n rules zs =
-    (λ j. stored-over (unit_of n) (left_factor n) (states n zs) n.left (distinct_left n rules) j + stored-over (unit_of n) (right_factor n) (states n zs) n.right (distinct_right n rules) j)
-    ∙ sym (same_among is_reactance (unit_of n) (left_factor n) (right_factor n) n.left n.right (states n zs) (disjoint_trees n rules))
-
-incident_over : (n : Network) → IsNetwork n → (e : ℕ → ℤ) → incident n e ≡ over is_source (λ (i : ℕ). conductance_at n i * square (e i)) (elements n)
-incident_over n rules e =
-    (λ j. incident-over (unit_of n) (left_factor n) e n.left (distinct_left n rules) j + incident-over (unit_of n) (right_factor n) e n.right (distinct_right n rules) j)
-    ∙ sym (same_among is_source (unit_of n) (left_factor n) (right_factor n) n.left n.right e (disjoint_trees n rules))
-
-pub absorbed_over : (n : Network) → IsNetwork n → (x e : ℕ → ℤ) (s : Frame) → IsStep n x e s
-    → absorbed n s ≡ over is_absorbing (λ (i : ℕ). conductance_at n i * square (sent_in n s i)) (elements n)
-absorbed_over n rules x e s step =
-    (λ j. absorbed-over (unit_of n) (left_factor n) x e n.left s.left (distinct_left n rules) step.left j
-    + absorbed-over (unit_of n) (right_factor n) x e n.right s.right (distinct_right n rules) step.right j)
-    ∙ sym (sums_among is_absorbing (unit_of n) (left_factor n) (right_factor n) n.left n.right (sent n.left s.left) (sent n.right s.right) (disjoint_trees n rules))
+-- ---- sums
 
 -- over the numbers of a kind, in netlist order
 netlist_sum : (n : Network) → IsNetwork n → (is : Kind → Bool) (f : ℕ → ℕ) → over is f (elements n) ≡ sum_by f (filter (has_kind is (elements n)) (range_with_len 0 (length (elements n))))
@@ -255,11 +126,11 @@ has_ports n rules = record {
   positive = λ i h. conductance_at-pos n rules i (numbers_every n rules i h);
   some_source = sum-pos (conductance_at n) (has_source (elements n)) (range_with_len 0 (length (elements n))) rules.some_source
       (λ i h. conductance_at-pos n rules i (kind_among is_source (elements n) i h));
-  stored_sum = λ zs. stored_over n rules zs ∙ netlist_sum n rules is_reactance (λ (i : ℕ). conductance_at n i * square (states n zs i));
-  incident_sum = λ e. incident_over n rules e ∙ netlist_sum n rules is_source (λ (i : ℕ). conductance_at n i * square (e i));
-  absorbed_sum = λ x e s step. absorbed_over n rules x e s step ∙ netlist_sum n rules is_absorbing (λ (i : ℕ). conductance_at n i * square (sent_in n s i));
+  stored_sum = λ zs. energy_over n rules is_reactance (states n zs) ∙ netlist_sum n rules is_reactance (λ (i : ℕ). conductance_at n i * square (states n zs i));
+  incident_sum = λ e. energy_over n rules is_source e ∙ netlist_sum n rules is_source (λ (i : ℕ). conductance_at n i * square (e i));
+  absorbed_sum = λ x e s step. sent_energy_over n rules is_absorbing x e s step ∙ netlist_sum n rules is_absorbing (λ (i : ℕ). conductance_at n i * square (sent_in n s i));
   incident_most = λ e c h.
-      let all = incident_over n rules e ∙ netlist_sum n rules is_source (λ (i : ℕ). conductance_at n i * square (e i)) in
+      let all = energy_over n rules is_source e ∙ netlist_sum n rules is_source (λ (i : ℕ). conductance_at n i * square (e i)) in
       let less = sum-le (λ (i : ℕ). conductance_at n i * square (e i)) (λ (i : ℕ). conductance_at n i * (c * c)) (has_source (elements n))
       (range_with_len 0 (length (elements n))) (λ i source. mul-le-mul_left (conductance_at n i) (mul-le-mul (h i source) (h i source))) in
       let product = sum-times (conductance_at n) (c * c) (source_numbers n) in

@@ -1,21 +1,21 @@
 -- The states after a step, as the list in netlist order has them: each reactance finds its own down wave.
-use Rattle.std.proofs.Common.{◌≡◌, ℕ, zero, suc, ◌+◌, ◌*◌, ◌<◌, Bool, true, false, ◌&&◌, ◌||◌, ◌==◌, cond, List, [], ◌∷◌, ◌++◌, map, length, refl, ap, sym, ◌∙◌, subst, arith}
+use Rattle.std.proofs.Common.{◌≡◌, ℕ, zero, suc, ◌+◌, ◌*◌, ◌<◌, Bool, true, false, ◌||◌, ◌==◌, cond, List, [], ◌∷◌, map, length, refl, ap, sym, ◌∙◌, subst, arith}
 use Rattle.std.specs.Prelude.{filter}
 use Rattle.std.specs.List.{range_with_len, list_any}
 use Rattle.std.proofs.lemmas.Bool.{eqb-true, eq-eqb}
-use Rattle.std.proofs.lemmas.List.Folds.{list_any-append}
 use lib.IntN.{ℤ, pos}
 use Rattle.wdf_algebra.specs.Squares.{square}
-use Rattle.wdf_law.specs.declared.kind.Kind.{Kind}
-use Rattle.wdf_law.specs.declared.kind.Kind.TheVariants.{Res, Cap, Ind, Src}
-use Rattle.wdf_law.specs.Trees.{AdaptorTree, leaf, series, parallel, LeafElement, elements_of}
-use Rattle.wdf_law.specs.Network.{Network, IsNetwork, unit_of, elements, is_reactance, has_reactance, has_leaf, reactances}
+use Rattle.wdf_law.specs.Trees.{AdaptorTree, leaf, series, parallel}
+use Rattle.wdf_law.specs.Network.{Network, IsNetwork, unit_of, elements, is_reactance, has_reactance, reactances}
 use Rattle.wdf_law.specs.Conductance.{conductance, series_first, series_second, parallel_first, parallel_second, left_factor, right_factor}
-use Rattle.wdf_law.specs.Step.{Waves, ends, forks, Follows, Frame, IsStep, sent, sent_in, after}
+use Rattle.wdf_law.specs.Step.{Frame, IsStep, sent_in, after}
 use Rattle.wdf_law.specs.Run.{entry, states, at_rest}
-use Rattle.wdf_law.specs.Energy.{if_reactance, stored_in, stored}
-use Rattle.wdf_law.specs.TreeRules.{AreDisjoint, HasDistinctLeaves, HasNumbers}
-use Rattle.wdf_law.proofs.BalanceLemmas.{kept_in, kept}
+use Rattle.wdf_law.specs.Ports.{conductance_at}
+use Rattle.wdf_law.specs.Energy.{stored_in, stored}
+use Rattle.wdf_law.specs.TreeRules.{HasNumbers}
+use Rattle.wdf_law.proofs.BalanceLemmas.{kept}
+use Rattle.wdf_law.proofs.SumLemmas.{over-same}
+use Rattle.wdf_law.proofs.EnergySums.{energy_over, sent_energy_over}
 use Rattle.wdf_law.proofs.NumberLemmas.{or_left, or_right, kind_among, numbers_once, numbers_below, numbers_every, disjoint_trees, distinct_left, distinct_right}
 
 -- ---- what is entered under a key is found there
@@ -59,48 +59,6 @@ passes p (suc n) a (suc i) h t =
     by true r = or_right (a == (a + suc i)) _ r
     by false r = r
 
--- ---- a tree
-
--- each reactance of a tree has its down wave as its state
-abbrev pub Keeps : (ℕ → ℤ) → AdaptorTree → Waves → Type 0
-Keeps x t w = (i : ℕ) → has_reactance (elements_of t) i ≡ true → x i ≡ sent t w i
-
--- the parts of what two trees keep, d being their waves by number
-first_keeps : (x : ℕ → ℤ) (l r : AdaptorTree) (wl wr : Waves)
-    → ((i : ℕ) → has_reactance (elements_of l ++ elements_of r) i ≡ true → x i ≡ cond {A = ℤ} (has_leaf l i) (sent l wl i) (sent r wr i)) → Keeps x l wl
-first_keeps x l r wl wr keeps i h =
-    keeps i (list_any-append (λ (y : LeafElement). (y.number == i) && is_reactance y.kind) (elements_of l) (elements_of r) ∙ or_left _ _ h)
-    ∙ ap (λ (b : Bool). cond {A = ℤ} b (sent l wl i) (sent r wr i)) (kind_among is_reactance (elements_of l) i h)
-
-second_keeps : (x : ℕ → ℤ) (l r : AdaptorTree) (wl wr : Waves) → AreDisjoint l r
-    → ((i : ℕ) → has_reactance (elements_of l ++ elements_of r) i ≡ true → x i ≡ cond {A = ℤ} (has_leaf l i) (sent l wl i) (sent r wr i)) → Keeps x r wr
-second_keeps x l r wl wr disjoint keeps i h =
-    keeps i (list_any-append (λ (y : LeafElement). (y.number == i) && is_reactance y.kind) (elements_of l) (elements_of r) ∙ or_right _ _ h)
-    ∙ ap (λ (b : Bool). cond {A = ℤ} b (sent l wl i) (sent r wr i)) (disjoint i (kind_among is_reactance (elements_of r) i h))
-
-at_leaf : (q f i : ℕ) (k : Kind) (flip : Bool) (x : ℕ → ℤ) (u d : ℤ) → Keeps x (leaf i k flip) (ends u d) → stored_in q x f (leaf i k flip) ≡ kept_in q f (leaf i k flip) (ends u d)
-at_leaf q f i Res flip x u d keeps = refl
-at_leaf q f i Src flip x u d keeps = refl
-at_leaf q f i Cap flip x u d keeps =
-    ap (λ (z : ℤ). conductance q f (leaf i Cap flip) * square z)
-    (keeps i (ap (λ (b : Bool). (b && true) || false) (eq-eqb i i refl)) ∙ ap (λ (b : Bool). cond {A = ℤ} b d (pos 0)) (eq-eqb i i refl))
-at_leaf q f i Ind flip x u d keeps =
-    ap (λ (z : ℤ). conductance q f (leaf i Ind flip) * square z)
-    (keeps i (ap (λ (b : Bool). (b && true) || false) (eq-eqb i i refl)) ∙ ap (λ (b : Bool). cond {A = ℤ} b d (pos 0)) (eq-eqb i i refl))
-
--- what is stored in such states is what was kept
-pub kept-is : (q f : ℕ) (x y e : ℕ → ℤ) (t : AdaptorTree) (w : Waves) → Follows q y e f t w → HasDistinctLeaves t → Keeps x t w → stored_in q x f t ≡ kept_in q f t w
-kept-is q f x y e (leaf i k flip) (ends u d) h once keeps = at_leaf q f i k flip x u d keeps
-kept-is q f x y e (leaf i k flip) (forks u d b1 b2 b wl wr) h once keeps = absurd h
-kept-is q f x y e (series m l r) (ends u d) h once keeps = absurd h
-kept-is q f x y e (series m l r) (forks u d b1 b2 b wl wr) h once keeps = λ i.
-    kept-is q (series_first q f m r) x y e l wl h.2 once.1 (first_keeps x l r wl wr keeps) i
-    + kept-is q (series_second q f m l) x y e r wr h.3 once.2 (second_keeps x l r wl wr once.0 keeps) i
-kept-is q f x y e (parallel m l r) (ends u d) h once keeps = absurd h
-kept-is q f x y e (parallel m l r) (forks u d b1 b2 b wl wr) h once keeps = λ i.
-    kept-is q (parallel_first q f m r) x y e l wl h.2 once.1 (first_keeps x l r wl wr keeps) i
-    + kept-is q (parallel_second q f m l) x y e r wr h.3 once.2 (second_keeps x l r wl wr once.0 keeps) i
-
 -- ---- a network
 
 -- a list of one value for each reactance has each value at its number
@@ -117,23 +75,20 @@ states-listed n rules f i h =
 pub states-after : (n : Network) (s : Frame) → IsNetwork n → (i : ℕ) → has_reactance (elements n) i ≡ true → states n (after n s) i ≡ sent_in n s i
 states-after n s rules i h = states-listed n rules (sent_in n s) i h
 
+-- so what is stored in them is what was kept
 pub stored-after : (n : Network) (x e : ℕ → ℤ) (s : Frame) → IsNetwork n → IsStep n x e s → stored n (after n s) ≡ kept n s
 stored-after n x e s rules step =
-    let q = unit_of n in
-    let y : ℕ → ℤ = states n (after n s) in
-    let keeps = states-after n s rules in
-    λ i. kept-is q (left_factor n) y x e n.left s.left step.left (distinct_left n rules) (first_keeps y n.left n.right s.left s.right keeps) i
-    + kept-is q (right_factor n) y x e n.right s.right step.right (distinct_right n rules) (second_keeps y n.left n.right s.left s.right (disjoint_trees n rules) keeps) i
+    energy_over n rules is_reactance (states n (after n s))
+    ∙ (over-same is_reactance _ _ (elements n) (λ i h. ap (λ (z : ℤ). conductance_at n i * square z) (states-after n s rules i h))
+    ∙ sym (sent_energy_over n rules is_reactance x e s step))
 
 -- at rest nothing is stored
 nothing_in : (q f : ℕ) (x : ℕ → ℤ) (t : AdaptorTree) → ((i : ℕ) → x i ≡ pos 0) → stored_in q x f t ≡ 0
-nothing_in q f x (leaf i k flip) h = by k (ap (λ (z : ℤ). conductance q f (leaf i k flip) * square z) (h i))
+nothing_in q f x (leaf i k flip) h = by (is_reactance k) (ap (λ (z : ℤ). conductance q f (leaf i k flip) * square z) (h i))
   where
-    by : (k : Kind) → conductance q f (leaf i k flip) * square (x i) ≡ conductance q f (leaf i k flip) * 0 → if_reactance k (conductance q f (leaf i k flip) * square (x i)) ≡ 0
-    by Res e = refl
-    by Src e = refl
-    by Cap e = omega arith
-    by Ind e = omega arith
+    by : (b : Bool) → conductance q f (leaf i k flip) * square (x i) ≡ conductance q f (leaf i k flip) * 0 → cond {A = ℕ} b (conductance q f (leaf i k flip) * square (x i)) 0 ≡ 0
+    by true e = omega arith
+    by false e = refl
 nothing_in q f x (series m l r) h =
     let a = nothing_in q (series_first q f m r) x l h in
     let b = nothing_in q (series_second q f m l) x r h in
@@ -141,6 +96,13 @@ nothing_in q f x (series m l r) h =
 nothing_in q f x (parallel m l r) h =
     let a = nothing_in q (parallel_first q f m r) x l h in
     let b = nothing_in q (parallel_second q f m l) x r h in
+    omega arith
+
+pub stored-at_rest : (n : Network) → stored n (at_rest n) ≡ 0
+stored-at_rest n =
+    let none = none_entered (reactances n) in
+    let a = nothing_in (unit_of n) (left_factor n) (states n (at_rest n)) n.left none in
+    let b = nothing_in (unit_of n) (right_factor n) (states n (at_rest n)) n.right none in
     omega arith
 
 pub has_numbers : (n : Network) → IsNetwork n → HasNumbers n
@@ -153,10 +115,3 @@ has_numbers n rules = record {
   right = distinct_right n rules;
   listed = states-listed n rules;
 }
-
-pub stored-at_rest : (n : Network) → stored n (at_rest n) ≡ 0
-stored-at_rest n =
-    let none = none_entered (reactances n) in
-    let a = nothing_in (unit_of n) (left_factor n) (states n (at_rest n)) n.left none in
-    let b = nothing_in (unit_of n) (right_factor n) (states n (at_rest n)) n.right none in
-    omega arith

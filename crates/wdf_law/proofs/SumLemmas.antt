@@ -29,10 +29,14 @@ number_first x xs = or_left (x.number == x.number) (has_element xs x.number) (eq
 pub number_later : (x : LeafElement) (xs : List LeafElement) (i : ℕ) → has_element xs i ≡ true → has_element (x ∷ xs) i ≡ true
 number_later x xs i h = or_right (x.number == i) (has_element xs i) h
 
-pub over-same : (is : Kind → Bool) (f g : ℕ → ℕ) (xs : List LeafElement) → ((i : ℕ) → has_element xs i ≡ true → f i ≡ g i) → over is f xs ≡ over is g xs
+pub over-same : (is : Kind → Bool) (f g : ℕ → ℕ) (xs : List LeafElement) → ((i : ℕ) → has_kind is xs i ≡ true → f i ≡ g i) → over is f xs ≡ over is g xs
 over-same is f g [] h = refl
 over-same is f g (x ∷ xs) h = λ j.
-    (if is x.kind then h x.number (number_first x xs) j else 0) + over-same is f g xs (λ i there. h i (number_later x xs i there)) j
+    by (is x.kind) refl j + over-same is f g xs (λ i there. h i (or_right ((x.number == i) && is x.kind) (has_kind is xs i) there)) j
+  where
+    by : (b : Bool) → is x.kind ≡ b → cond {A = ℕ} b (f x.number) 0 ≡ cond {A = ℕ} b (g x.number) 0
+    by true e = h x.number (or_left _ (has_kind is xs x.number) (λ j. eq-eqb x.number x.number refl j && e j))
+    by false e = refl
 
 -- one element's part is at most the whole
 pub part-over : (is : Kind → Bool) (f : ℕ → ℕ) (xs : List LeafElement) (j : ℕ) → has_kind is xs j ≡ true → f j ≤ over is f xs

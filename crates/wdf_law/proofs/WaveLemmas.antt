@@ -12,7 +12,7 @@ use Rattle.wdf_law.proofs.ConductanceLemmas.{sound_trees}
 use Rattle.wdf_law.proofs.StateLemmas.{stored-at_rest}
 use Rattle.wdf_law.proofs.EnergyLemmas.{step_keeps, run_keeps}
 use Rattle.wdf_law.proofs.SumLemmas.{part-over}
-use Rattle.wdf_law.proofs.PortLemmas.{absorbed_over}
+use Rattle.wdf_law.proofs.EnergySums.{sent_energy_over}
 use Rattle.wdf_law.proofs.BoundLemmas.{step-bounded}
 
 run-bounded : (n : Network) → IsNetwork n → (c : ℕ) (zs : List ℤ) (es : List (ℕ → ℤ)) (ss : List Frame) → stored n zs ≤ c → IsRun n zs es ss → IsRunBounded n c es ss
@@ -31,7 +31,7 @@ part_taken n rules j x e s step = by (has_absorbing (elements n) j) refl
     by : (b : Bool) → has_absorbing (elements n) j ≡ b → cond {A = ℕ} b (conductance_at n j * square (sent_in n s j)) 0 ≤ absorbed n s
     by true h =
         let part = part-over is_absorbing (λ (i : ℕ). conductance_at n i * square (sent_in n s i)) (elements n) j h in
-        let all = absorbed_over n rules x e s step in
+        let all = sent_energy_over n rules is_absorbing x e s step in
         omega arith
     by false h = omega arith
 

@@ -1,55 +1,41 @@
 -- The energies of a network, as sums of weighted squares: g·x² at a port of the conductance g. Their unit is that of the
 -- conductances.
-use Rattle.std.specs.Prelude.{ℕ, ◌+◌, ◌*◌, if◌then◌else◌, ℤ, List, [], ◌∷◌}
+use Rattle.std.specs.Prelude.{ℕ, ◌+◌, ◌*◌, if◌then◌else◌, Bool, ℤ, List, [], ◌∷◌}
 use Rattle.wdf_algebra.specs.Squares.{square}
 use Rattle.wdf_law.specs.declared.kind.Kind.{Kind}
-use Rattle.wdf_law.specs.declared.kind.Kind.TheVariants.{Res, Cap, Ind, Src}
 use Rattle.wdf_law.specs.Trees.{AdaptorTree, leaf, series, parallel}
-use Rattle.wdf_law.specs.Network.{Network, unit_of, elements, has_absorbing}
+use Rattle.wdf_law.specs.Network.{Network, unit_of, elements, is_source, is_reactance, is_absorbing, has_absorbing}
 use Rattle.wdf_law.specs.Conductance.{conductance, series_first, series_second, parallel_first, parallel_second, left_factor, right_factor}
 use Rattle.wdf_law.specs.Step.{Waves, ends, forks, Frame, sent_in}
 use Rattle.wdf_law.specs.Run.{states}
 use Rattle.wdf_law.specs.Ports.{conductance_at}
 
--- a reactance's share, a source's share, and that of a resistor or a source
-abbrev pub if_reactance : Kind → ℕ → ℕ
-if_reactance Cap n = n
-if_reactance Ind n = n
-if_reactance Res n = 0
-if_reactance Src n = 0
+-- the sum of g·z² over the elements of a kind in a tree with the factor f, z being a value by the element's number
+abbrev pub energy_in : (Kind → Bool) → ℕ → (ℕ → ℤ) → ℕ → AdaptorTree → ℕ
+energy_in is q z f (leaf i k flip) = if is k then conductance q f (leaf i k flip) * square (z i) else 0
+energy_in is q z f (series m l r) = energy_in is q z (series_first q f m r) l + energy_in is q z (series_second q f m l) r
+energy_in is q z f (parallel m l r) = energy_in is q z (parallel_first q f m r) l + energy_in is q z (parallel_second q f m l) r
 
-abbrev pub if_source : Kind → ℕ → ℕ
-if_source Src n = n
-if_source Res n = 0
-if_source Cap n = 0
-if_source Ind n = 0
+-- and of g·d², d being the wave that is sent there
+abbrev pub sent_energy_in : (Kind → Bool) → ℕ → ℕ → AdaptorTree → Waves → ℕ
+sent_energy_in is q f (leaf i k flip) (ends u d) = if is k then conductance q f (leaf i k flip) * square d else 0
+sent_energy_in is q f (leaf i k flip) (forks u d b1 b2 b wl wr) = 0
+sent_energy_in is q f (series m l r) (ends u d) = 0
+sent_energy_in is q f (series m l r) (forks u d b1 b2 b wl wr) = sent_energy_in is q (series_first q f m r) l wl + sent_energy_in is q (series_second q f m l) r wr
+sent_energy_in is q f (parallel m l r) (ends u d) = 0
+sent_energy_in is q f (parallel m l r) (forks u d b1 b2 b wl wr) =
+    sent_energy_in is q (parallel_first q f m r) l wl + sent_energy_in is q (parallel_second q f m l) r wr
 
-abbrev pub if_absorbing : Kind → ℕ → ℕ
-if_absorbing Res n = n
-if_absorbing Src n = n
-if_absorbing Cap n = 0
-if_absorbing Ind n = 0
-
--- the sum of g·x² over the reactances of a tree with the factor f, by the element's number
+-- the energy stored in a tree at the states x, that sent in at the sources' values e, and that taken up by resistors and
+-- sources
 abbrev pub stored_in : ℕ → (ℕ → ℤ) → ℕ → AdaptorTree → ℕ
-stored_in q x f (leaf i k flip) = if_reactance k (conductance q f (leaf i k flip) * square (x i))
-stored_in q x f (series m l r) = stored_in q x (series_first q f m r) l + stored_in q x (series_second q f m l) r
-stored_in q x f (parallel m l r) = stored_in q x (parallel_first q f m r) l + stored_in q x (parallel_second q f m l) r
+stored_in q x f t = energy_in is_reactance q x f t
 
--- the sum of g·e² over the sources
 abbrev pub incident_in : ℕ → (ℕ → ℤ) → ℕ → AdaptorTree → ℕ
-incident_in q e f (leaf i k flip) = if_source k (conductance q f (leaf i k flip) * square (e i))
-incident_in q e f (series m l r) = incident_in q e (series_first q f m r) l + incident_in q e (series_second q f m l) r
-incident_in q e f (parallel m l r) = incident_in q e (parallel_first q f m r) l + incident_in q e (parallel_second q f m l) r
+incident_in q e f t = energy_in is_source q e f t
 
--- the sum of g·d² over the resistors and the sources, d being the wave that is sent there
 abbrev pub absorbed_in : ℕ → ℕ → AdaptorTree → Waves → ℕ
-absorbed_in q f (leaf i k flip) (ends u d) = if_absorbing k (conductance q f (leaf i k flip) * square d)
-absorbed_in q f (leaf i k flip) (forks u d b1 b2 b wl wr) = 0
-absorbed_in q f (series m l r) (ends u d) = 0
-absorbed_in q f (series m l r) (forks u d b1 b2 b wl wr) = absorbed_in q (series_first q f m r) l wl + absorbed_in q (series_second q f m l) r wr
-absorbed_in q f (parallel m l r) (ends u d) = 0
-absorbed_in q f (parallel m l r) (forks u d b1 b2 b wl wr) = absorbed_in q (parallel_first q f m r) l wl + absorbed_in q (parallel_second q f m l) r wr
+absorbed_in q f t w = sent_energy_in is_absorbing q f t w
 
 -- the energy stored in the states zs, in netlist order
 abbrev pub stored : Network → List ℤ → ℕ

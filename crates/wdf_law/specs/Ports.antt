@@ -1,10 +1,10 @@
 -- The ports of the elements: what each has of conductance and waves, as a list and by the element's number.
-use Rattle.std.specs.Prelude.{ℕ, ℤ, pos, ◌==◌, if◌then◌else◌, List, [], ◌∷◌, ◌++◌}
+use Rattle.std.specs.Prelude.{ℕ, ℤ, ◌==◌, if◌then◌else◌, List, [], ◌∷◌, ◌++◌}
 use Rattle.std.specs.List.{sum_by}
 use Rattle.wdf_law.specs.Trees.{AdaptorTree, leaf, series, parallel, LeafElement}
 use Rattle.wdf_law.specs.Network.{Network, unit_of, has_leaf, source_numbers}
 use Rattle.wdf_law.specs.Conductance.{conductance, series_first, series_second, parallel_first, parallel_second, left_factor, right_factor}
-use Rattle.wdf_law.specs.Step.{Waves, ends, forks, Frame, sent_in}
+use Rattle.wdf_law.specs.Step.{Waves, ends, forks, Frame, leaf_wave, sent_in}
 
 -- an element's port in a frame: its conductance, the wave up that the element reflects and the wave down that it is
 -- sent
@@ -42,14 +42,9 @@ abbrev pub conductance_at : Network → ℕ → ℕ
 conductance_at n j =
     if has_leaf n.left j then leaf_conductance (unit_of n) j (left_factor n) n.left else leaf_conductance (unit_of n) j (right_factor n) n.right
 
--- the wave that the element j reflects, 0 where there is none
+-- the wave that the element j of a tree reflects, 0 where there is none
 abbrev pub leaf_up_wave : AdaptorTree → Waves → ℕ → ℤ
-leaf_up_wave (leaf i _ _) (ends u d) j = if i == j then u else pos 0
-leaf_up_wave (leaf i _ _) (forks u d b1 b2 b wl wr) j = pos 0
-leaf_up_wave (series m l r) (ends u d) j = pos 0
-leaf_up_wave (series m l r) (forks u d b1 b2 b wl wr) j = if has_leaf l j then leaf_up_wave l wl j else leaf_up_wave r wr j
-leaf_up_wave (parallel m l r) (ends u d) j = pos 0
-leaf_up_wave (parallel m l r) (forks u d b1 b2 b wl wr) j = if has_leaf l j then leaf_up_wave l wl j else leaf_up_wave r wr j
+leaf_up_wave t w j = leaf_wave (λ (u d : ℤ). u) t w j
 
 -- and in a network, beside the wave that it is sent, sent_in
 abbrev pub up_wave_at : Network → Frame → ℕ → ℤ

@@ -56,14 +56,18 @@ pub record IsStep (n : Network) (x e : ℕ → ℤ) (s : Frame) : Type 0 where
   pub left : Follows (unit_of n) x e (left_factor n) n.left s.left
   pub right : Follows (unit_of n) x e (right_factor n) n.right s.right
 
--- the down wave of the leaf with this number, 0 where there is none
+-- what pick takes of the waves up and down of the leaf with this number, 0 where there is none
+abbrev pub leaf_wave : (ℤ → ℤ → ℤ) → AdaptorTree → Waves → ℕ → ℤ
+leaf_wave pick (leaf j _ _) (ends u d) i = if j == i then pick u d else pos 0
+leaf_wave pick (leaf j _ _) (forks u d b1 b2 b wl wr) i = pos 0
+leaf_wave pick (series m l r) (ends u d) i = pos 0
+leaf_wave pick (series m l r) (forks u d b1 b2 b wl wr) i = if has_leaf l i then leaf_wave pick l wl i else leaf_wave pick r wr i
+leaf_wave pick (parallel m l r) (ends u d) i = pos 0
+leaf_wave pick (parallel m l r) (forks u d b1 b2 b wl wr) i = if has_leaf l i then leaf_wave pick l wl i else leaf_wave pick r wr i
+
+-- the wave that it is sent
 abbrev pub sent : AdaptorTree → Waves → ℕ → ℤ
-sent (leaf j _ _) (ends u d) i = if j == i then d else pos 0
-sent (leaf j _ _) (forks u d b1 b2 b wl wr) i = pos 0
-sent (series m l r) (ends u d) i = pos 0
-sent (series m l r) (forks u d b1 b2 b wl wr) i = if has_leaf l i then sent l wl i else sent r wr i
-sent (parallel m l r) (ends u d) i = pos 0
-sent (parallel m l r) (forks u d b1 b2 b wl wr) i = if has_leaf l i then sent l wl i else sent r wr i
+sent t w i = leaf_wave (λ (u d : ℤ). d) t w i
 
 abbrev pub sent_in : Network → Frame → ℕ → ℤ
 sent_in n s i = if has_leaf n.left i then sent n.left s.left i else sent n.right s.right i
