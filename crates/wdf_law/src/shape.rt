@@ -55,8 +55,8 @@ impl Shape {
         self
     }
 
-    // Turns the shape round.
-    fn reverse(&mut self)
+    /// Turns the shape round in place: from then on it is its own reversal.
+    pub fn reverse(&mut self)
         ensures { outline self.new ≡ reversed (outline self.old) }
     {
         match self {
