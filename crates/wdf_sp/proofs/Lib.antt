@@ -1,0 +1,16 @@
+pub mod CircuitLemmas
+pub mod CurrentLemmas
+pub mod EdgeLemmas
+pub mod ElementLemmas
+pub mod JunctionWaves
+pub mod KirchhoffLemmas
+pub mod ListLemmas
+pub mod LosslessJunctions
+pub mod MergeLemmas
+pub mod PairLemmas
+pub mod PotentialLemmas
+pub mod ReductionLemmas
+pub mod RerootingLemmas
+pub mod RootLemmas
+pub mod SpanLemmas
+pub mod WalkLemmas

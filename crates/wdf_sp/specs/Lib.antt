@@ -1,0 +1,9 @@
+pub mod ArcsCode
+pub mod Decomposition
+pub mod Edges
+pub mod Kirchhoff
+pub mod Reduction
+pub mod Rerooting
+pub mod Structure
+pub mod StructureLaws
+pub mod WorkedCircuits
