@@ -44,3 +44,26 @@ fn a_copy_is_equal(rt: HostRuntime) -> Result<(), Fail> {
     assert!(rt; same(copy.right(), &capacitor_and_load(alloc)?));
     Ok(())
 }
+
+// So many sources in series, the greatest number first.
+fn sources_in_series(alloc: Global, count: u32) -> Result<Tree, AllocError> {
+    let mut tree = leaf(0, Kind::Src);
+    for elem in 1..count {
+        let l = Box::new(alloc, leaf(elem, Kind::Src))?;
+        let r = Box::new(alloc, tree)?;
+        tree = Tree::Series { m: 8192, l, r };
+    }
+    Ok(tree)
+}
+
+#[test]
+fn a_ninth_source_is_refused(rt: HostRuntime) -> Result<(), Fail> {
+    let alloc = rt.alloc();
+    let sources = sources_in_series(alloc, 8)?;
+    let net = Net::new(14, 8192, leaf(8, Kind::Res), sources, Outlet::Source)?;
+    assert!(rt; net.source_count() == 8 && net.outlet_element() == 0);
+    let sources = sources_in_series(alloc, 9)?;
+    let refused = Net::new(14, 8192, leaf(9, Kind::Res), sources, Outlet::Source);
+    assert!(rt; matches!(refused, Err(NetError::TooManySources { elem: 8 })));
+    Ok(())
+}
