@@ -28,6 +28,17 @@ down_wave-waves q x e (leaf i k flip) d = refl
 down_wave-waves q x e (series m l r) d = refl
 down_wave-waves q x e (parallel m l r) d = refl
 
+-- what holds of the solved up waves of two trees holds of those of their waves
+of_ups : (P : ℤ → ℤ → Type 0) (q : ℕ) (x e : ℕ → ℤ) (l r : AdaptorTree) (d1 d2 : ℤ) → P (ups q x e l) (ups q x e r)
+    → P (up_wave (waves q x e l d1)) (up_wave (waves q x e r d2))
+of_ups P q x e l r d1 d2 h =
+    subst (λ (v : ℤ). P v (up_wave (waves q x e r d2))) (sym (up_wave-waves q x e l d1)) (subst (P (ups q x e l)) (sym (up_wave-waves q x e r d2)) h)
+
+-- the solved values are truncated as they leave their junction
+truncates : (q : ℕ) (x e : ℕ → ℤ) (l r : AdaptorTree) (b1 b2 b : ℤ)
+    → Truncates q (trunc b q) (down_wave (waves q x e l (trunc b1 q))) (down_wave (waves q x e r (trunc b2 q))) b1 b2 b
+truncates q x e l r b1 b2 b = record { first = down_wave-waves q x e l (trunc b1 q); second = down_wave-waves q x e r (trunc b2 q); up = refl }
+
 -- the solved waves meet every law
 pub follows : (q f : ℕ) (x e : ℕ → ℤ) (t : AdaptorTree) (d : ℤ) → 0 < q → 0 < f → IsSound q t → Follows q x e f t (waves q x e t d)
 follows q f x e (leaf i k flip) d unit some s = reflected-meets k flip (x i) (e i) d
@@ -36,19 +47,13 @@ follows q f x e (series m l r) d unit some s =
     let u2 = ups q x e r in
     let b1 = series_part q m u1 u2 d u1 in
     let b2 = series_part q (q - m) u1 u2 d u2 in
-    let wl = waves q x e l (trunc b1 q) in
-    let wr = waves q x e r (trunc b2 q) in
     let g1 = conductance q (series_first q f m r) l in
     let g2 = conductance q (series_second q f m l) r in
-    let g = conductance q f (series m l r) in
     let first = series_first-pos q f m r unit some s.1 s.3 in
-    let second = series_second-pos q f m l unit some s.0 s.2 in
-    let is : IsSeries q g1 g2 g (up_wave wl) (up_wave wr) d b1 b2 (series_value q u1 u2) =
-    subst (λ (v : ℤ). IsSeries q g1 g2 g v (up_wave wr) d b1 b2 (series_value q u1 u2)) (sym (up_wave-waves q x e l (trunc b1 q)))
-    (subst (λ (v : ℤ). IsSeries q g1 g2 g u1 v d b1 b2 (series_value q u1 u2)) (sym (up_wave-waves q x e r (trunc b2 q)))
-    (series_solved q m (q - m) g1 g2 g u1 u2 d (conductance-pos q (series_first q f m r) l unit first s.2) (whole_of q m s.1) (series_law q f m l r s.1))) in (
-      is,
-      record { first = down_wave-waves q x e l (trunc b1 q); second = down_wave-waves q x e r (trunc b2 q); up = refl },
+    let second = series_second-pos q f m l unit some s.0 s.2 in (
+      of_ups (λ (v1 v2 : ℤ). IsSeries q g1 g2 (conductance q f (series m l r)) v1 v2 d b1 b2 (series_value q u1 u2)) q x e l r (trunc b1 q) (trunc b2 q)
+          (series_solved q m (q - m) _ _ _ u1 u2 d (conductance-pos q (series_first q f m r) l unit first s.2) (whole_of q m s.1) (series_law q f m l r s.1)),
+      truncates q x e l r b1 b2 (series_value q u1 u2),
       follows q (series_first q f m r) x e l (trunc b1 q) unit first s.2,
       follows q (series_second q f m l) x e r (trunc b2 q) unit second s.3,
     )
@@ -57,20 +62,13 @@ follows q f x e (parallel m l r) d unit some s =
     let u2 = ups q x e r in
     let b1 = parallel_part q m (q - m) u1 u2 d u1 in
     let b2 = parallel_part q m (q - m) u1 u2 d u2 in
-    let b = parallel_value m (q - m) u1 u2 in
-    let wl = waves q x e l (trunc b1 q) in
-    let wr = waves q x e r (trunc b2 q) in
     let g1 = conductance q (parallel_first q f m r) l in
     let g2 = conductance q (parallel_second q f m l) r in
-    let g = conductance q f (parallel m l r) in
     let first = parallel_first-pos q f m r unit some s.0 s.3 in
-    let second = parallel_second-pos q f m l unit some s.1 s.2 in
-    let is : IsParallel q g1 g2 g (up_wave wl) (up_wave wr) d b1 b2 b =
-    subst (λ (v : ℤ). IsParallel q g1 g2 g v (up_wave wr) d b1 b2 b) (sym (up_wave-waves q x e l (trunc b1 q)))
-    (subst (λ (v : ℤ). IsParallel q g1 g2 g u1 v d b1 b2 b) (sym (up_wave-waves q x e r (trunc b2 q)))
-    (parallel_solved q m (q - m) g1 g2 g u1 u2 d (whole_of q m s.1) (parallel_law q f m l r s.1))) in (
-      is,
-      record { first = down_wave-waves q x e l (trunc b1 q); second = down_wave-waves q x e r (trunc b2 q); up = refl },
+    let second = parallel_second-pos q f m l unit some s.1 s.2 in (
+      of_ups (λ (v1 v2 : ℤ). IsParallel q g1 g2 (conductance q f (parallel m l r)) v1 v2 d b1 b2 (parallel_value m (q - m) u1 u2)) q x e l r (trunc b1 q) (trunc b2 q)
+          (parallel_solved q m (q - m) _ _ _ u1 u2 d (whole_of q m s.1) (parallel_law q f m l r s.1)),
+      truncates q x e l r b1 b2 (parallel_value m (q - m) u1 u2),
       follows q (parallel_first q f m r) x e l (trunc b1 q) unit first s.2,
       follows q (parallel_second q f m l) x e r (trunc b2 q) unit second s.3,
     )
@@ -133,9 +131,8 @@ solved-steps n s x e =
     let g1 = conductance q (left_factor n) n.left in
     let g2 = conductance q (right_factor n) n.right in
     record {
-      root = subst (λ (v : ℤ). IsRoot q g1 g2 v (up_wave (waves q x e n.right (trunc b2 q))) b1 b2) (sym (up_wave-waves q x e n.left (trunc b1 q)))
-          (subst (λ (v : ℤ). IsRoot q g1 g2 u1 v b1 b2) (sym (up_wave-waves q x e n.right (trunc b2 q)))
-          (root_solved q n.m (q - n.m) g1 g2 u1 u2 (whole_of q n.m s.few) (root_law q n.m n.left n.right s.few)));
+      root = of_ups (λ (v1 v2 : ℤ). IsRoot q g1 g2 v1 v2 b1 b2) q x e n.left n.right (trunc b1 q) (trunc b2 q)
+          (root_solved q n.m (q - n.m) g1 g2 u1 u2 (whole_of q n.m s.few) (root_law q n.m n.left n.right s.few));
       to_left = down_wave-waves q x e n.left (trunc b1 q);
       to_right = down_wave-waves q x e n.right (trunc b2 q);
       left = follows q (left_factor n) x e n.left (trunc b1 q) s.unit (left_factor-pos n s) s.left;

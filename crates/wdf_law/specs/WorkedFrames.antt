@@ -1,5 +1,6 @@
 -- Frames worked by hand, k = 14 and so q = 16384, against which the definitions of a step are checked.
 use Rattle.std.specs.Prelude.{◌≡◌, ℤ, pos, neg_ℤ, true, false, List, [], ◌∷◌}
+use Rattle.wdf_law.specs.declared.kind.Kind.{Kind}
 use Rattle.wdf_law.specs.declared.kind.Kind.TheVariants.{Res, Cap, Ind, Src}
 use Rattle.wdf_law.specs.declared.outlet.Outlet.{Outlet}
 use Rattle.wdf_law.specs.declared.outlet.Outlet.TheVariants.{Load, Source}
@@ -17,15 +18,21 @@ pub record IsWorked (n : Network) (before es : List ℤ) (s : Frame) (behind : L
   pub after : after n s ≡ behind
   pub wave : load_wave n s ≡ w
 
--- a source and, in parallel, a capacitor and the load
-abbrev pub capacitor_circuit : Network
-capacitor_circuit = record {
+-- a source and, in parallel, a reactance and the load
+abbrev pub reactance_circuit : Kind → Network
+reactance_circuit kind = record {
   k = 14;
   m = 5461;
   left = leaf 0 Src false;
-  right = parallel 8192 (leaf 1 Cap false) (leaf 2 Res false);
+  right = parallel 8192 (leaf 1 kind false) (leaf 2 Res false);
   outlet = Load 2;
 }
+
+abbrev pub capacitor_circuit : Network
+capacitor_circuit = reactance_circuit Cap
+
+abbrev pub inductor_circuit : Network
+inductor_circuit = reactance_circuit Ind
 
 abbrev pub capacitor_frame : Frame
 capacitor_frame = record {
@@ -33,16 +40,6 @@ capacitor_frame = record {
   b2 = neg_ℤ (pos 9940840);
   left = ends (pos 0) (neg_ℤ (pos 2426));
   right = forks (neg_ℤ (pos 1820)) (neg_ℤ (pos 606)) (pos 19898368) (neg_ℤ (pos 39755776)) (neg_ℤ (pos 29827072)) (ends (neg_ℤ (pos 3641)) (pos 1214)) (ends (pos 0) (neg_ℤ (pos 2426)));
-}
-
--- the same with an inductor in the capacitor's place
-abbrev pub inductor_circuit : Network
-inductor_circuit = record {
-  k = 14;
-  m = 5461;
-  left = leaf 0 Src false;
-  right = parallel 8192 (leaf 1 Ind false) (leaf 2 Res false);
-  outlet = Load 2;
 }
 
 -- a source and, in series, a resistor and the load

@@ -1,12 +1,14 @@
-use Rattle.std.proofs.Common.{refl, arith, [], ◌∷◌}
+use Rattle.std.proofs.Common.{◌≡◌, ℕ, refl, arith, ap, sym, [], ◌∷◌}
 use borrow.Author.Differences.{ints}
-use Rattle.std.specs.Prelude.{pos, neg_ℤ}
+use Rattle.std.specs.Prelude.{ℤ, pos, neg_ℤ, ◌*ℤ◌, false}
 use Rattle.wdf_law.specs.declared.outlet.Outlet.{Outlet}
 use Rattle.wdf_law.specs.declared.outlet.Outlet.TheVariants.{Load, Source}
-use Rattle.wdf_law.specs.Elements.{IsCapacitor, IsInductor}
+use Rattle.wdf_law.specs.declared.kind.Kind.{Kind}
+use Rattle.wdf_law.specs.declared.kind.Kind.TheVariants.{Cap, Ind}
+use Rattle.wdf_law.specs.Elements.{IsCapacitor, IsInductor, ObeysElementLaw}
 use Rattle.wdf_law.specs.Step.{IsStep}
 use Rattle.wdf_law.specs.Run.{states, source_values}
-use Rattle.wdf_law.specs.WorkedFrames.{two_reactances, two_reactances_frame, two_sources, two_sources_frame}
+use Rattle.wdf_law.specs.WorkedFrames.{reactance_circuit, capacitor_circuit, inductor_circuit, capacitor_frame, two_reactances, two_reactances_frame, two_sources, two_sources_frame}
 use Rattle.wdf_law.proofs.laws.worked_frames.Goals as goal
 
 capacitor : IsCapacitor (neg_ℤ (pos 3641)) (neg_ℤ (pos 3641)) (pos 1214)
@@ -14,6 +16,16 @@ capacitor = record { trapezoid = λ v j e. omega (arith, ints) }
 
 inductor : IsInductor (pos 3641) (neg_ℤ (pos 3641)) (pos 1214)
 inductor = record { trapezoid = λ v j e. omega (arith, ints) }
+
+-- a silent source, whatever the reactance is
+reactance_step : (reactance : Kind) (x e : ℕ → ℤ) → e 0 ≡ pos 0 → ObeysElementLaw reactance false (x 1) (e 1) (neg_ℤ (pos 3641)) (pos 1214) → IsStep (reactance_circuit reactance) x e capacitor_frame
+reactance_step reactance x e silent law = record {
+  root = record { voltages = refl; currents = refl };
+  to_left = refl;
+  to_right = refl;
+  left = record { drives = ap (λ (z : ℤ). pos 2 *ℤ z) (sym silent) };
+  right = (record { first = refl; second = refl; currents = refl }, record { first = refl; second = refl; up = refl }, law, record { ohm = refl });
+}
 
 second_inductor : IsInductor (neg_ℤ (pos 999)) (pos 999) (neg_ℤ (pos 230))
 second_inductor = record { trapezoid = λ v j e. omega (arith, ints) }
@@ -56,28 +68,8 @@ two_sources_step outlet = record {
 
 pub returns : goal.returns
 returns c = record {
-  capacitor = record {
-    step = record {
-      root = record { voltages = refl; currents = refl };
-      to_left = refl;
-      to_right = refl;
-      left = record { drives = refl };
-      right = (record { first = refl; second = refl; currents = refl }, record { first = refl; second = refl; up = refl }, capacitor, record { ohm = refl });
-    };
-    after = refl;
-    wave = refl;
-  };
-  inductor = record {
-    step = record {
-      root = record { voltages = refl; currents = refl };
-      to_left = refl;
-      to_right = refl;
-      left = record { drives = refl };
-      right = (record { first = refl; second = refl; currents = refl }, record { first = refl; second = refl; up = refl }, inductor, record { ohm = refl });
-    };
-    after = refl;
-    wave = refl;
-  };
+  capacitor = record { step = reactance_step Cap (states capacitor_circuit (neg_ℤ (pos 3641) ∷ [])) (source_values capacitor_circuit (pos 0 ∷ [])) refl capacitor; after = refl; wave = refl };
+  inductor = record { step = reactance_step Ind (states inductor_circuit (pos 3641 ∷ [])) (source_values inductor_circuit (pos 0 ∷ [])) refl inductor; after = refl; wave = refl };
   series = record {
     step = record {
       root = record { voltages = refl; currents = refl };
