@@ -257,6 +257,16 @@ fn each_failing_call_is_answered_in_its_place(rt: HostRuntime) -> Result<(), Fai
     assert_eq!(rt; failing(&rt, alloc, Status::LoadFault, &shelf)?, 1);
     assert_eq!(rt; failing(&rt, alloc, Status::ReadFault, &input)?, 5);
     assert_eq!(rt; failing(&rt, alloc, Status::WriteFault, &out)?, 5);
+
+    // Where the second write fails, just the header stands.
+    let wave = joined(alloc, &FOUR, &SAMPLES)?;
+    let fails = Fails {
+        shelf: None,
+        input: None,
+        out: Some(1),
+    };
+    let second = attempt(alloc, "net=divider.net", DIVIDER.as_bytes(), wave, fails)?;
+    check(&rt, &second, Status::WriteFault, &FOUR);
     Ok(())
 }
 
