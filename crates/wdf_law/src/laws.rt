@@ -7,8 +7,10 @@ ghost use Rattle.wdf_law.specs.WorkedFrames.{AreWorked};
 
 use crate::Net;
 
-/// Frames worked by hand are steps of their networks: a capacitor, an inductor, a series junction
-/// and a source that is written against its place.
+/// Frames worked by hand are steps of their networks: a capacitor, an inductor, a series junction,
+/// a source that is written against its place, two reactances and two sources whose numbers are not
+/// in the order of their places, and both outlets. The ports and the energies of two of them are
+/// numbers worked by hand too.
 pub fn worked_frames()
     ensures { AreWorked }
 {}
