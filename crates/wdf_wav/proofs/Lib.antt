@@ -1,3 +1,14 @@
+mod AnsweredLemmas
+mod ChunkTextLemmas
+mod FormLemmas
+mod FormatLemmas
 mod FrameBlockLemmas
+mod HeadRows
+mod OneAnswerLemmas
+mod OneCutLemmas
+mod PassLemmas
 mod PcmStreamLemmas
+mod RoundTripLemmas
 mod SampleLemmas
+mod SeenLemmas
+mod StopLemmas

@@ -53,7 +53,7 @@ length-data_of bits (z ∷ zs) =
     omega (arith, length-append (sample_coding bits z) (data_of bits zs), length-sample_coding bits z)
 
 -- the sample of a channel in a whole frame
-pub sample_at_is : (head : Head) (body : List ℕ) (frame channel : ℕ) → IsFrameFormat head → (frame + 1) * block_align head ≤ length body → channel < head.channels
+pub sample_at_is : (head : Head) (body : List ℕ) (frame channel : ℕ) → IsFrameFormat head.channels head.bits → (frame + 1) * block_align head ≤ length body → channel < head.channels
     → sample_at head body frame channel ≡ sample_value head.bits (take (head.bits / 8) (drop (frame * block_align head + channel * (head.bits / 8)) body))
 sample_at_is head body frame channel format whole inside =
     let size = head.bits / 8 in

@@ -5,10 +5,10 @@ use Rattle.wdf_algebra.specs.Samples.{IsSampleWidth}
 use Rattle.wdf_wav.specs.declared.head.Head.{Head}
 
 -- the frames that are read and written: one to eight channels of samples of 8, 16, 24 or 32 bits
-pub record IsFrameFormat (head : Head) : Type 0 where
-  pub some_channel : 1 ≤ head.channels
-  pub few_channels : head.channels ≤ 8
-  pub width : IsSampleWidth head.bits
+pub record IsFrameFormat (channels bits : ℕ) : Type 0 where
+  pub some_channel : 1 ≤ channels
+  pub few_channels : channels ≤ 8
+  pub width : IsSampleWidth bits
 
 -- the bytes of a frame, which is one sample of each channel: channels · bits / 8
 abbrev pub block_align : Head → ℕ
@@ -22,10 +22,15 @@ data_size head = head.frames * block_align head
 abbrev pub pad_size : Head → ℕ
 pad_size head = data_size head % 2
 
+-- the heads that are read: from 0xFFFFFF00 on a size stands for an unknown length
+pub record IsReadHead (head : Head) : Type 0 where
+  pub format : IsFrameFormat head.channels head.bits
+  pub size : data_size head < 0xFFFFFF00
+
 -- the heads that a header is written for: its rate is at most 1,000,000, so that no field wraps, and
 -- from 0xFFFFFF00 on a size stands for an unknown length
 pub record IsPcmHead (head : Head) : Type 0 where
-  pub format : IsFrameFormat head
+  pub format : IsFrameFormat head.channels head.bits
   pub rate : head.rate ≤ 1000000
   pub size : data_size head < 0xFFFFFF00
 

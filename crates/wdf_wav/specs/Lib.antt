@@ -1,5 +1,11 @@
+pub mod Chunks
+pub mod FormatChunk
 pub mod FrameBlock
+pub mod HeadFaults
+pub mod HeadLaws
+pub mod HeadReading
 pub mod Header
 pub mod Laws
 pub mod PcmStream
 pub mod SampleCoding
+pub mod WaveHead

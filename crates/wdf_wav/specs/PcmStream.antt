@@ -1,12 +1,26 @@
 -- A wave as a stream of bytes, and the samples that its data holds.
-use Rattle.std.specs.Prelude.{◌≡◌, ℕ, ◌+◌, ◌*◌, ◌/◌, List, ◌++◌, length, map, slice_index_or, ℤ, pos, flat_map}
+use Rattle.std.specs.Prelude.{◌≡◌, ℕ, ◌+◌, ◌*◌, ◌/◌, List, [], ◌++◌, length, map, slice_index_or, ℤ, pos, flat_map, Option}
+use Rattle.std.specs.Io.KnownBytes.{Consumes}
 use Rattle.wdf_algebra.specs.Pieces.{pieces}
 use Rattle.wdf_wav.specs.declared.head.Head.{Head}
 use Rattle.wdf_wav.specs.Header.{IsPcmHead, data_size, head_bytes_of}
 use Rattle.wdf_wav.specs.SampleCoding.{sample_coding, sample_value}
+use Rattle.wdf_wav.specs.WaveHead.{IsHeaded}
 
--- bytes are a wave in the plain form: the 44 bytes of the header of head, then body, the bytes of
--- all its frames, then rest
+-- bytes are a wave: the text of its head, then body, the bytes of all its frames, then rest
+pub record IsPcmStream (bytes : List ℕ) (head : Head) (body rest : List ℕ) : Type 0 where
+  pub front : List ℕ
+  pub headed : IsHeaded front head
+  pub parts : bytes ≡ front ++ (body ++ rest)
+  pub size : length body ≡ data_size head
+
+-- A wave was read: the input lost its head's text and the bytes of all its frames.
+pub record ReadsStream (left left' : Option (List ℕ)) (head : Head) (body : List ℕ) : Type 0 where
+  pub bytes : List ℕ
+  pub stream : IsPcmStream bytes head body []
+  pub input : Consumes left left' bytes
+
+-- a wave in the plain form, which is the one written: the head's text is the 44 bytes of its header
 pub record IsPlainStream (bytes : List ℕ) (head : Head) (body rest : List ℕ) : Type 0 where
   pub valid : IsPcmHead head
   pub parts : bytes ≡ head_bytes_of head ++ body ++ rest

@@ -22,7 +22,7 @@ use wdf_io::{Failed, Source, take_exact};
 /// source, at most as many as `buf` holds, and nothing is said of `buf`.
 #[tactic(auto, using(crate::proofs::FrameBlockLemmas::whole_frames, crate::proofs::FrameBlockLemmas::part_of_frame))]
 pub fn read_block<S: Source>(src: &mut S, head: &Head, buf: &mut [u8]) -> Result<usize, Failed>
-    requires format { IsFrameFormat head.now }
+    requires format { IsFrameFormat head.now.channels head.now.bits }
     requires frames { length buf.old % block_align head.now ≡ 0 }
 
     ensures bound { IfOk result (λ n. n * block_align head.now ≤ length buf.new) }

@@ -20,7 +20,7 @@ impl Head {
 
     // The bytes of a frame.
     pub(crate) fn block_align(&self) -> u16
-        requires { IsFrameFormat self.now }
+        requires { IsFrameFormat self.now.channels self.now.bits }
         ensures value { result ≡ block_align self.now }
         ensures some { 1 ≤ result }
         ensures few { result ≤ 32 }

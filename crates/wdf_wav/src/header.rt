@@ -27,7 +27,7 @@ use byteorder::{ByteOrder, LittleEndian};
 /// 0xFFFFFF00, from where on a size stands for an unknown length.
 #[tactic(auto, unfolding(crate::specs::Header::head_bytes_of))]
 pub fn head_bytes(head: &Head) -> [u8; 44]
-    requires format { IsFrameFormat head.now }
+    requires format { IsFrameFormat head.now.channels head.now.bits }
     requires rate { head.now.rate ≤ 1000000 }
     requires size { data_size head.now < 0xFFFFFF00 }
     ensures { result ≡ head_bytes_of head.now }
@@ -54,7 +54,7 @@ fn riff_header(size: u32) -> [u8; 12]
 // The bytes from 12 to 35.
 #[tactic(auto, unfolding(crate::specs::Header::head_bytes_of))]
 fn format_chunk(head: &Head) -> [u8; 24]
-    requires format { IsFrameFormat head.now }
+    requires format { IsFrameFormat head.now.channels head.now.bits }
     requires rate { head.now.rate ≤ 1000000 }
     ensures { result ≡ slice_range (head_bytes_of head.now) 12 36 }
 {
