@@ -1,4 +1,5 @@
 pub mod Cancelling
+pub mod Congruences
 pub mod LinearCombinations
 pub mod ParallelJunction
 pub mod PieceLemmas

@@ -1,5 +1,6 @@
 pub mod JunctionValues
 pub mod Pieces
+pub mod Residues
 pub mod Samples
 pub mod Squares
 pub mod Truncation
