@@ -1,0 +1,14 @@
+pub mod Amounts
+pub mod Ends
+pub mod Inverses
+pub mod LeftInverses
+pub mod Onto
+pub mod Orders
+pub mod Powers
+pub mod Reduced
+pub mod Reducing
+pub mod Splits
+pub mod Squarings
+pub mod Taking
+pub mod Totals
+pub mod VectorLemmas

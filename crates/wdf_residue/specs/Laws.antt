@@ -1,0 +1,25 @@
+-- What the arithmetic modulo P implies.
+use Rattle.std.specs.Prelude.{◌≡◌, ℕ, ◌*◌, ◌%◌, ◌<◌, ℤ, pos, ◌+ℤ◌, ◌*ℤ◌, List, [], ◌∷◌, length, All}
+use Rattle.wdf_residue.specs.Residue.{prime, residue}
+use Rattle.wdf_residue.specs.Matrix.{Entries, IsLeftInverse}
+
+-- b is a's inverse: a residue with a·b = 1 modulo P
+pub record IsInverseOf (a b : ℕ) : Type 0 where
+  pub below : b < prime
+  pub product : (a * b) % prime ≡ 1
+
+-- a has an inverse
+abbrev pub HasInverse : ℕ → Type 0
+HasInverse a = (b : ℕ) × IsInverseOf a b
+
+-- the product of a row with whole numbers
+abbrev pub weighed : List ℕ → List ℤ → ℤ
+weighed [] zs = pos 0
+weighed (x ∷ xs) [] = pos 0
+weighed (x ∷ xs) (z ∷ zs) = pos x *ℤ z +ℤ weighed xs zs
+
+-- where rows have a left inverse, numbers whose product with every row is 0 modulo P are 0 modulo P
+abbrev pub SeesEach : Type 0
+SeesEach = (m : Entries) (numbers inverse : List ℕ) (zs : List ℤ)
+    → All (λ (r : ℕ). r < length m.rows) numbers → IsLeftInverse m.rows m.columns numbers inverse → length zs ≡ m.columns
+    → All (λ (row : List ℕ). residue (weighed row zs) ≡ 0) m.rows → All (λ (z : ℤ). residue z ≡ 0) zs
