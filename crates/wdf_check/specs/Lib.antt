@@ -1,0 +1,6 @@
+pub mod Certificate
+pub mod Checking
+pub mod Observability
+pub mod ResidueStep
+pub mod Returning
+pub mod Stepping

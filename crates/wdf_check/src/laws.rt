@@ -1,0 +1,34 @@
+//! What a certificate implies: each function is a law, whose contract is proved and whose body only
+//! calls laws of the crates below.
+ghost use Rattle.std.specs.Prelude.{ℕ, List};
+ghost use Rattle.wdf_check.specs.Certificate.{Certifies, Obstructs};
+ghost use Rattle.wdf_check.specs.Returning.{NeverReturns};
+
+use crate::Cert;
+use wdf_law::Net;
+pub use wdf_residue::laws::inverse;
+
+/// Where a certificate certifies the network, no state within the words of its plan returns without
+/// input but rest; to stay in a state is to return to it.
+///
+/// It does not need that P is prime.
+pub fn no_return(net: &Net, cert: &Cert)
+    requires { Certifies net.now cert.now }
+    ensures { NeverReturns net.now }
+{
+    net.rules();
+    wdf_law::laws::numbers(net);
+    wdf_law::laws::ports(net);
+    wdf_law::laws::one_step(net);
+    wdf_law::laws::energy(net);
+    wdf_residue::laws::left_inverse();
+}
+
+/// Where a certificate certifies the network, there is no obstruction: no state but multiples of P
+/// that no resistor and no source ever sees.
+pub fn no_obstruction(net: &Net, cert: &Cert)
+    requires { Certifies net.now cert.now }
+    ensures { (v : List ℕ) → Obstructs net.now v → ⊥ }
+{
+    wdf_residue::laws::left_inverse();
+}
