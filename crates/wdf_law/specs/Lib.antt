@@ -10,6 +10,7 @@ pub mod Outline
 pub mod OutputRule
 pub mod PortLaws
 pub mod Ports
+pub mod PortOutline
 pub mod Refusal
 pub mod RefusalOrder
 pub mod Reversal

@@ -1,0 +1,3 @@
+mod BoundNumbers
+mod Roots
+mod WithinLemmas

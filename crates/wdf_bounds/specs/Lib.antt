@@ -1,0 +1,3 @@
+pub mod HeldWords
+pub mod Plans
+pub mod WordBound

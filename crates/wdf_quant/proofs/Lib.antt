@@ -1,0 +1,9 @@
+mod CoverLemmas
+mod EncloseLemmas
+mod GatherLemmas
+mod LeafLemmas
+mod Listings
+mod Powers
+mod QuantisedLemmas
+mod WalkLemmas
+mod WholeLemmas
