@@ -1,6 +1,6 @@
 -- A circuit: its elements, the names of its nodes, its outlet and its choice of root. The number of an
 -- element and of a node is its place in its list.
-use Rattle.std.specs.Prelude.{◌≡◌, ◌≢◌, ℕ, pos, negsuc, ◌%◌, ◌<◌, ◌≤◌, ◌≤ℤ◌, Bool, false, List, [], ◌∷◌, ◌++◌, if◌then◌else◌, length, map, fold, flat_map, filter, count_by, eqb, Option, Some, unwrap_or, option_map, slice_get, All, IsTrue}
+use Rattle.std.specs.Prelude.{◌≡◌, ◌≢◌, ℕ, pos, negsuc, ◌%◌, ◌<◌, ◌≤◌, ◌≤ℤ◌, Bool, false, List, [], ◌∷◌, ◌++◌, if◌then◌else◌, length, map, fold, flat_map, filter, count_by, eqb, Option, Some, unwrap_or, option_map, slice_get, slice_index_or, All, IsTrue}
 use Rattle.std.specs.List.{list_any, range_with_len}
 use Rattle.wdf_text.specs.DecimalNumber.{DecimalNumber}
 use Rattle.wdf_text.specs.Names.{IsName, is_name_or_at_sign}
@@ -38,6 +38,10 @@ numbers_where test elements = filter (is_kind_at test elements) (range_with_len 
 -- the numbers of the sources
 abbrev pub sources : List Element → List ℕ
 sources elements = numbers_where is_source elements
+
+-- the number of source 0, between whose ends a circuit is reduced and over whose resistance ratios are counted
+abbrev pub first_source : List Element → ℕ
+first_source elements = slice_index_or (sources elements) 0 0
 
 -- the element with this number is a source, between two nodes
 pub record IsSourceAt (elements : List Element) (i : ℕ) : Type 0 where

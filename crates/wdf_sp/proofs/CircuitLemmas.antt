@@ -11,7 +11,8 @@ use Rattle.wdf_netlist.specs.declared.element.Element.{Element}
 use Rattle.wdf_netlist.specs.Circuits.{CircuitValue, IsCircuit, IsSourceAt, sources}
 use Rattle.wdf_sp.specs.declared.sp_fault.SpFault.{SpFault}
 use Rattle.wdf_sp.specs.Decomposition.{Decomposes}
-use Rattle.wdf_sp.specs.Edges.{branch, branches, first_source}
+use Rattle.wdf_sp.specs.Edges.{branch, branches}
+use Rattle.wdf_netlist.specs.Circuits.{first_source}
 use Rattle.wdf_sp.specs.Structure.{IsDriven, SpansCircuit}
 use Rattle.wdf_sp.specs.Reduction.{branch_at}
 use Rattle.wdf_sp.proofs.ReductionLemmas.{shape_spans, depth-leaves}

@@ -1,8 +1,7 @@
 -- Edges, elements and trees as clauses see them.
-use Rattle.std.specs.Prelude.{ℕ, List, map, slice_index_or}
+use Rattle.std.specs.Prelude.{List, map}
 use Rattle.wdf_law.specs.Outline.{outline}
 use Rattle.wdf_law.specs.Spans.{Branch}
-use Rattle.wdf_netlist.specs.Circuits.{sources}
 use Rattle.wdf_netlist.specs.declared.element.Element.{Element}
 use Rattle.wdf_sp.specs.declared.edge.Edge.{Edge}
 use Rattle.wdf_sp.specs.declared.rooted.Rooted.{Rooted}
@@ -21,10 +20,6 @@ branch e = record { kind = e.kind; from = e.from; to = e.to }
 
 abbrev pub branches : List Element → List Branch
 branches es = map branch es
-
--- the source between whose ends a circuit is reduced: the first by its number
-abbrev pub first_source : List Element → ℕ
-first_source es = slice_index_or (sources es) 0 0
 
 abbrev pub halves : Rooted → Halves
 halves r = record { left = outline r.left; right = outline r.right }

@@ -1,7 +1,8 @@
 ghost use Rattle.std.specs.Prelude.{◌≡◌, ℕ, ◌+◌, ◌≤◌, ◌<◌, List, length, max};
 ghost use Rattle.wdf_law.specs.Outline.{outline, outline_depth, outline_elements, times};
 ghost use Rattle.wdf_law.specs.Spans.{Branch};
-ghost use Rattle.wdf_sp.specs.Edges.{first_source, halves};
+ghost use Rattle.wdf_sp.specs.Edges.{halves};
+ghost use Rattle.wdf_netlist.specs.Circuits.{first_source};
 ghost use Rattle.wdf_sp.specs.Rerooting.{outside_depth, parted, rerooted, root_of, rooted_depth, shallowest};
 ghost use Rattle.wdf_sp.specs.Structure.{HasElements, IsShapeOf, IsUnflipped, Meets};
 

@@ -1,0 +1,3 @@
+pub mod PortRatio
+pub mod PortRatios
+pub mod WorkedRatios
