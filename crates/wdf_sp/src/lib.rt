@@ -13,7 +13,6 @@ mod sp_fault;
 
 pub use edge::Edge;
 pub use edges::Edges;
-pub use merge::Merge;
 pub use reduction::decompose;
 pub use rerooting::{choose, reroot};
 pub use rooted::Rooted;

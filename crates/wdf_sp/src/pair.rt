@@ -2,7 +2,8 @@ ghost use Rattle.std.specs.Prelude.{◌≡◌, ◌+◌, ◌<◌, ◌≤◌, leng
 ghost use Rattle.wdf_sp.specs.Edges.{arc, arcs};
 ghost use Rattle.wdf_sp.specs.Reduction.{arc_at, are_in_series, degree, first_pair, first_place, fit, hangs, inner_node, is_free, meet_at, next_merge};
 
-use crate::{Edge, Merge};
+use crate::Edge;
+use crate::merge::Merge;
 use wdf_law::Connection;
 
 // How many edges touch the node.

@@ -7,8 +7,9 @@ ghost use Rattle.wdf_netlist.specs.Circuits.{first_source};
 ghost use Rattle.wdf_sp.specs.Reduction.{after_merge, edges_from, fully_reduced, joined_at, leaf_arc, naming_element};
 ghost use Rattle.wdf_sp.specs.Structure.{IsDriven, SpansCircuit};
 
+use crate::merge::Merge;
 use crate::pair::{hangs, inner_node, next_merge};
-use crate::{Edge, Edges, Merge, SpFault};
+use crate::{Edge, Edges, SpFault};
 use std::alloc::{AllocError, Global};
 use std::mem;
 use wdf_law::{Connection, Kind, Shape};
