@@ -1,6 +1,6 @@
-ghost use Rattle.std.specs.Prelude.{◌≡◌, ◌+◌, ◌<◌, ◌≤◌, length, drop, IfSome};
+ghost use Rattle.std.specs.Prelude.{◌≡◌, ◌+◌, ◌<◌, length, drop, IfSome};
 ghost use Rattle.wdf_sp.specs.Edges.{arc, arcs};
-ghost use Rattle.wdf_sp.specs.Reduction.{arc_at, are_in_series, degree, first_pair, first_place, fit, hangs, inner_node, is_free, meet_at, next_merge};
+ghost use Rattle.wdf_sp.specs.Reduction.{arc_at, degree, first_pair, first_place, fit, hangs, inner_node, is_free, meet_at, next_merge};
 
 use crate::Edge;
 use crate::merge::Merge;

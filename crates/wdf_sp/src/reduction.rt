@@ -1,11 +1,11 @@
-ghost use Rattle.std.specs.Prelude.{◌≡◌, ◌+◌, ◌<◌, ◌≤◌, IfOk, OnOk, length, slice_index_or, vec_len};
+ghost use Rattle.std.specs.Prelude.{◌≡◌, ◌+◌, ◌<◌, ◌≤◌, IfOk, OnOk, length, vec_len};
 ghost use Rattle.wdf_law.specs.Outline.{outline, outline_depth, outline_elements};
 ghost use Rattle.wdf_netlist.specs.declared.TheConstants.{MAX_ELEMENTS};
 ghost use Rattle.wdf_sp.specs.Decomposition.{Accepts, Decomposes};
 ghost use Rattle.wdf_sp.specs.Edges.{arc, arcs, branch, branches};
 ghost use Rattle.wdf_netlist.specs.Circuits.{first_source};
 ghost use Rattle.wdf_sp.specs.Reduction.{after_merge, edges_from, fully_reduced, joined_at, leaf_arc, naming_element};
-ghost use Rattle.wdf_sp.specs.Structure.{IsDriven, SpansCircuit};
+ghost use Rattle.wdf_sp.specs.Structure.{SpansCircuit};
 
 use crate::merge::Merge;
 use crate::pair::{hangs, inner_node, next_merge};

@@ -3,6 +3,7 @@ use Rattle.wdf_sp.proofs.laws.worked_circuits.Goals as goal
 
 pub returns : goal.returns
 returns c = record {
+  later_source_shape = refl;
   opposed_shape = refl;
   bridge_is_core = refl;
   bridge_end = refl;
@@ -13,6 +14,7 @@ returns c = record {
   chain_reduced = refl;
   anti_parallel_shape = refl;
   two_pairs_shape = refl;
+  series_and_parallel_shape = refl;
   loop_end = refl;
   loop_named = refl;
   looped_chain_end = refl;
