@@ -1,5 +1,6 @@
 mod CuttingLemmas
 mod DecimalLemmas
+mod DecimalTests
 mod NumberLemmas
 mod PaddingLemmas
 mod PlacingLemmas

@@ -42,7 +42,7 @@ one_refusal text TooManyDigits Empty h g = absurd (false≢true (sym g.2 ∙ h.2
 one_refusal text TooManyDigits TooManyDigits h g = refl
 
 -- what is read is not refused
-not_refused : (text : List ℕ) (e : DecimalError) → IsDecimal text → RefusesDecimal text e → ⊥
+pub not_refused : (text : List ℕ) (e : DecimalError) → IsDecimal text → RefusesDecimal text e → ⊥
 not_refused text TooLong h g = absurd (omega (arith, h.0))
 not_refused text (BadByte b) h g = no_stray text b g.1 h.1
 not_refused text Empty h g = false≢true (sym g.2 ∙ h.2)

@@ -1,12 +1,12 @@
 -- A decimal: digits with at most one dot, and the number that it writes.
-use Rattle.std.specs.Prelude.{◌≡◌, ℕ, ◌*◌, ◌^◌, ◌<◌, ◌≤◌, pos, ◌+ℤ◌, Bool, true, false, not, ◌&&◌, ◌||◌, ◌==◌, List, length, take, filter, slice_index, Result, Ok, Err}
-use Rattle.std.specs.List.{after_first, list_any}
+use Rattle.std.specs.Prelude.{◌≡◌, ℕ, ◌*◌, ◌/◌, ◌^◌, ◌<◌, ◌≤◌, pos, ◌+ℤ◌, ◌-ℤ◌, Bool, true, false, not, ◌&&◌, ◌||◌, ◌==◌, nat_le, if◌then◌else◌, List, length, take, filter, count_by, slice_index, Result, Ok, Err}
+use Rattle.std.specs.List.{after_first, list_all, list_any, suffix_len}
 use Rattle.std.specs.Char.{is_ascii_digit}
 use Rattle.wdf_text.specs.DecimalNumber.{DecimalNumber}
 use Rattle.wdf_text.specs.declared.decimal_error.DecimalError.{DecimalError}
 use Rattle.wdf_text.specs.declared.decimal_error.DecimalError.TheVariants.{TooLong, BadByte, Empty, TooManyDigits}
 use Rattle.wdf_text.specs.Numbers.{digits_of_bytes, number_of}
-use Rattle.wdf_text.specs.Significance.{significant_count}
+use Rattle.wdf_text.specs.Significance.{is_zero, significant_count}
 
 abbrev pub is_dot : ℕ → Bool
 is_dot byte = byte == 46
@@ -37,6 +37,26 @@ has_digit text = list_any is_ascii_digit text
 -- how many digits stand from the first to the last that is not 0
 abbrev pub significant_digits : List ℕ → ℕ
 significant_digits text = significant_count (digits_of_bytes (digit_bytes text))
+
+-- a digit or a dot
+abbrev pub is_decimal_byte : ℕ → Bool
+is_decimal_byte byte = is_ascii_digit byte || is_dot byte
+
+-- digits and at most one dot, at most 40 bytes, some digit, and at most 9 significant ones
+abbrev pub is_decimal : List ℕ → Bool
+is_decimal text =
+    nat_le (length text) 40 && (list_all is_decimal_byte text && (nat_le (count_by is_dot text) 1 && (has_digit text && nat_le (significant_digits text) 9)))
+
+-- how many zeros stand at the end of the digits
+abbrev pub zeros_behind : List ℕ → ℕ
+zeros_behind text = suffix_len is_zero (digits_of_bytes (digit_bytes text))
+
+-- the number that such a text writes: all its digits without the zeros behind them, and the power of ten of the
+-- last one that is left
+abbrev pub number_in : List ℕ → DecimalNumber
+number_in text =
+    let n = number_of (digit_bytes text) in
+    record { digits = n / 10 ^ zeros_behind text; exp = if n == 0 then pos 0 else (pos (zeros_behind text) -ℤ pos (places text)) }
 
 -- ---- where each refusal comes: its cause is there, and none before it
 

@@ -14,10 +14,14 @@ pub record IsName (bytes : List ℕ) : Type 0 where
   pub few : length bytes ≤ 16
   pub letters : IsTrue (list_all is_name_byte bytes)
 
+-- the same as a test
+abbrev pub is_name : List ℕ → Bool
+is_name bytes = nat_le 1 (length bytes) && nat_le (length bytes) 16 && list_all is_name_byte bytes
+
 -- the name `@`
 abbrev pub at_sign : List ℕ
 at_sign = 64 ∷ []
 
 -- what every name is
 abbrev pub is_name_or_at_sign : List ℕ → Bool
-is_name_or_at_sign bytes = (nat_le 1 (length bytes) && nat_le (length bytes) 16 && list_all is_name_byte bytes) || bytes_eq bytes at_sign
+is_name_or_at_sign bytes = is_name bytes || bytes_eq bytes at_sign

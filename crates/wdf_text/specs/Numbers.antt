@@ -1,5 +1,5 @@
 -- Decimal digits in ASCII, and the number that they write.
-use Rattle.std.specs.Prelude.{ℕ, ◌-◌, ◌^◌, ◌<◌, ◌≤◌, List, length, map, IsTrue}
+use Rattle.std.specs.Prelude.{ℕ, ◌-◌, ◌^◌, ◌<◌, ◌≤◌, Bool, ◌&&◌, nat_lt, nat_le, List, length, map, IsTrue}
 use Rattle.std.specs.Char.{is_ascii_digit}
 use Rattle.std.specs.List.{list_all}
 use Rattle.std.specs.Int.Digits.{number_from_digits}
@@ -18,3 +18,7 @@ pub record IsWholeNumber (text : List ℕ) : Type 0 where
   pub few : length text ≤ 20
   pub digits : IsTrue (list_all is_ascii_digit text)
   pub fits : number_of text < 2 ^ 64
+
+-- the same as a test
+abbrev pub is_whole : List ℕ → Bool
+is_whole text = nat_le 1 (length text) && nat_le (length text) 20 && list_all is_ascii_digit text && nat_lt (number_of text) (2 ^ 64)

@@ -133,6 +133,7 @@ impl<'a> Cursor<'a> {
         ensures text { self.new.text ≡ self.old.text }
         ensures within { IfSome result (λ word. word.start + word.len ≤ length self.old.text) }
         ensures some { IfSome result (λ word. 1 ≤ word.len) }
+        ensures column { IfSome result (λ word. word.column ≤ word.start + 1) }
     {
         let place = next_place(self.text, self.place);
         if place.at == self.text.len() {

@@ -1,7 +1,7 @@
 //! Decimal numbers with at most one dot.
 
-ghost use Rattle.std.specs.Prelude.{◌≡◌, ◌↔◌, ◌+◌, ◌<◌, ◌≤◌, ◌%◌, ◌+ℤ◌, pos, ℕ, IfOk, IsOk, MatchOption, Err, length, position};
-ghost use Rattle.wdf_text.specs.Decimals.{Answers, HasBadByte, HasNoDigit, HasNoStray, HasTooManyDigits, IsDecimal, IsFirstStray, IsTooLong, IsValueOf, digit_bytes, has_digit, is_dot, places, significant_digits};
+ghost use Rattle.std.specs.Prelude.{◌≡◌, ◌↔◌, ◌+◌, ◌<◌, ◌≤◌, ◌%◌, ◌+ℤ◌, pos, ℕ, IfOk, IsOk, MatchOption, Err, is_ok, length, position};
+ghost use Rattle.wdf_text.specs.Decimals.{Answers, HasBadByte, HasNoDigit, HasNoStray, HasTooManyDigits, IsDecimal, IsFirstStray, IsTooLong, IsValueOf, digit_bytes, has_digit, is_decimal, is_dot, number_in, places, significant_digits};
 ghost use Rattle.wdf_text.specs.DecimalNumber.{DecimalNumber, IsNormal};
 ghost use Rattle.wdf_text.specs.Numbers.{digits_of_bytes};
 ghost use Rattle.wdf_text.specs.Significance.{IsSignificant};
@@ -91,6 +91,8 @@ fn quantity(read: Significant, places: usize) -> Quantity
 fn read_decimal(text: &[u8]) -> Result<Quantity, DecimalError>
     ensures answer { Answers text.now result }
     ensures normal { IfOk result IsNormal }
+    ensures number { IfOk result (λ q. q ≡ number_in text.now) }
+    ensures small { IfOk result (λ q. q.digits ≤ 999999999) }
 {
     if text.len() > 40 {
         return Err(DecimalError::TooLong);
@@ -117,6 +119,11 @@ fn read_decimal(text: &[u8]) -> Result<Quantity, DecimalError>
 pub fn decimal(text: &[u8]) -> Result<Quantity, DecimalError>
     ensures read { IsOk result ↔ IsDecimal text.now }
     ensures value { IfOk result (IsValueOf text.now) }
+    ensures small { IfOk result (λ q. q.digits ≤ 999999999) }
+
+    // The same as a test and as a function of the text.
+    ensures test { is_ok result ≡ is_decimal text.now }
+    ensures number { IfOk result (λ q. q ≡ number_in text.now) }
 
     // No other number in its one form is that of the text.
     ensures normal { IfOk result IsNormal }

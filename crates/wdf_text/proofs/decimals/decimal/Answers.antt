@@ -1,4 +1,5 @@
 use Rattle.wdf_text.specs.declared.decimal_error.DecimalError.TheVariants.{TooLong, BadByte, Empty, TooManyDigits}
+use Rattle.wdf_text.proofs.DecimalTests.{tested}
 use Rattle.wdf_text.proofs.RefusalLemmas.{accepted, exactly, only, valued}
 use Rattle.wdf_text.proofs.decimals.decimal.Goals as goal
 
@@ -22,3 +23,6 @@ returns-clause-too_many_digits c = exactly c.args.text.now c.read_decimal.result
 
 pub returns-clause-one_form : goal.returns-clause-one_form
 returns-clause-one_form c = only c.args.text.now c.read_decimal.result c.read_decimal.ensures.answer c.read_decimal.ensures.normal
+
+pub returns-clause-test : goal.returns-clause-test
+returns-clause-test c = tested c.args.text.now c.read_decimal.result c.read_decimal.ensures.answer

@@ -1,6 +1,7 @@
 use Rattle.std.proofs.Common.{◌≤◌, sym, arith}
 use Rattle.wdf_text.specs.Decimals.{HasNoStray, significant_digits}
 use Rattle.wdf_text.proofs.DecimalLemmas.{digits_in, value_read, zeros_few}
+use Rattle.wdf_text.proofs.DecimalTests.{number_read, small_read}
 use Rattle.wdf_text.proofs.SignificanceLemmas.{significant_all}
 use Rattle.wdf_text.proofs.decimals.read_decimal.Goals as goal
 
@@ -20,3 +21,13 @@ returns-in-Some-significant-clause-answer c =
       (omega arith, none, sym c.if-not-has_digit.ensures, few),
       value_read text read.digits read.count read.zeros c.quantity.result s c.quantity.ensures.digits (rw c.places.ensures at c.quantity.ensures.exp) c.quantity.ensures.zero,
     )
+
+pub returns-in-Some-significant-clause-number : goal.returns-in-Some-significant-clause-number
+returns-in-Some-significant-clause-number c =
+    let read = c.in-Some-significant.read in
+    number_read c.args.text.now read.digits read.count read.zeros c.quantity.result c.in-Some-significant.ensures c.quantity.ensures.digits (rw c.places.ensures at c.quantity.ensures.exp) c.quantity.ensures.zero
+
+pub returns-in-Some-significant-clause-small : goal.returns-in-Some-significant-clause-small
+returns-in-Some-significant-clause-small c =
+    let read = c.in-Some-significant.read in
+    rw c.quantity.ensures.digits (small_read (digits_in c.args.text.now) read.digits read.count read.zeros c.in-Some-significant.ensures)
