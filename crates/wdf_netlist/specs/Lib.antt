@@ -1,2 +1,13 @@
 pub mod Circuits
+pub mod Drafts
+pub mod Gathering
+pub mod Kept
+pub mod LineRules
+pub mod Lines
+pub mod NetlistText
 pub mod Netlists
+pub mod Places
+pub mod Statements
+pub mod Taking
+pub mod TextRules
+pub mod Values
