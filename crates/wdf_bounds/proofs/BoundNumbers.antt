@@ -1,6 +1,6 @@
 -- From a bound on a word's energy to the bound on the word, over natural numbers: c is the sum of the sources'
 -- conductances, g that of the port and p its number, s a square or a sum of squares, n the frames, e the greatest input.
-use Rattle.std.proofs.Common.{◌≡◌, ℕ, ◌+◌, ◌*◌, ◌^◌, ◌<◌, ◌≤◌, ap, sym, arith}
+use Rattle.std.proofs.Common.{◌≡◌, ℕ, ◌*◌, ◌^◌, ◌<◌, ◌≤◌, arith}
 use Rattle.std.specs.Int.{div_ceil}
 use Rattle.std.proofs.Math.Nat.{mul-le-mul, mul-le-mul_left, le_of_mul-le-mul_left}
 use Rattle.std.proofs.lemmas.Grind.{div_ceil_times}

@@ -1,3 +1,4 @@
 mod BoundNumbers
+mod FitLemmas
 mod Roots
 mod WithinLemmas

@@ -1,19 +1,18 @@
 -- The words of a frame whose energy is at most what a plan allows are within the bounds of their ports.
-use Rattle.std.proofs.Common.{◌≡◌, ℕ, suc, ◌+◌, ◌-◌, ◌*◌, ◌^◌, ◌==◌, ◌<◌, ◌≤◌, Bool, true, false, if◌then◌else◌, List, [], ◌∷◌, length, refl, ap, sym, ◌∙◌, subst, unsigned_abs, arith}
+use Rattle.std.proofs.Common.{◌≡◌, ℕ, suc, ◌+◌, ◌*◌, ◌^◌, ◌==◌, ◌<◌, ◌≤◌, Bool, true, false, if◌then◌else◌, List, [], ◌∷◌, length, refl, ap, unsigned_abs, arith}
 use Rattle.std.specs.Prelude.{All, IsTrue, nat_le, ◌&&◌, ◌||◌}
-use Rattle.std.specs.List.{list_any}
-use Rattle.std.proofs.Math.Nat.{mul-le-mul, mul-le-mul_left}
+use Rattle.std.proofs.Math.Nat.{mul-le-mul_left}
 use Rattle.std.proofs.lemmas.Bool.{le-leb, leb-true}
 use Rattle.std.proofs.lemmas.List.Elements.{All-nil, All-cons, All-head, All-tail}
 use lib.IntN.{ℤ}
 use Rattle.wdf_algebra.specs.Squares.{square}
 use Rattle.wdf_law.specs.declared.kind.Kind.{Kind}
 use Rattle.wdf_law.specs.Trees.{AdaptorTree, leaf, series, parallel, LeafElement}
-use Rattle.wdf_law.specs.Network.{Network, unit_of, elements, has_element, has_kind, has_absorbing, has_source}
+use Rattle.wdf_law.specs.Network.{Network, unit_of, elements, has_element, has_kind, has_absorbing}
 use Rattle.wdf_law.specs.Conductance.{conductance, series_first, series_second, parallel_first, parallel_second, left_factor, right_factor}
 use Rattle.wdf_law.specs.Step.{Waves, ends, forks, Frame, IsStep, sent_in, after}
 use Rattle.wdf_law.specs.Run.{states, at_rest, IsRun}
-use Rattle.wdf_law.specs.Energy.{stored, incident, absorbed, all_incident, taken, all_taken}
+use Rattle.wdf_law.specs.Energy.{stored, incident, all_incident, taken, all_taken}
 use Rattle.wdf_law.specs.Ports.{conductance_at, source_conductance}
 use Rattle.wdf_law.specs.PortLaws.{HasPorts}
 use Rattle.wdf_law.specs.TreeRules.{HasNumbers}

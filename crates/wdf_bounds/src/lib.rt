@@ -2,8 +2,10 @@
 #![tactic(auto)]
 
 mod bound_fault;
+mod bounds;
 pub mod laws;
 mod plan;
 
 pub use bound_fault::BoundFault;
+pub use bounds::{Bounds, plan_check};
 pub use plan::Plan;

@@ -8,7 +8,7 @@ use Rattle.wdf_law.specs.Network.{Network, unit_of, has_leaf, source_numbers}
 use Rattle.wdf_law.specs.Conductance.{clearing, conductance, series_first, series_second, parallel_first, parallel_second, left_factor, right_factor}
 use Rattle.wdf_law.specs.TreeRules.{IsSound, HasSoundTrees, HasNumbers}
 use Rattle.wdf_law.specs.Ports.{leaf_conductance, conductance_at, source_conductance}
-use Rattle.wdf_quant.specs.PortBound.{PortNumbers, end, fork, own, NetworkNumbers, carried, beneath, reached, around, ratios_from, zeros, summed, with_ratios, port_numbers, leaf_number, number_at}
+use Rattle.wdf_quant.specs.PortBound.{PortNumbers, end, fork, own, NetworkNumbers, carried, beneath, reached, around, ratios_from, zeros, summed, with_ratios, port_numbers, leaf_number}
 use Rattle.wdf_quant.proofs.LeafLemmas.{has_leaf-series, has_element-parts}
 use Rattle.wdf_quant.specs.Covering.{Covers, CoversNetwork, own-covers, CoversSources}
 

@@ -1,9 +1,8 @@
 -- The walk of the first source is the walk of the network, and what is too wide in it is what the network answers.
-use Rattle.std.proofs.Common.{◌≡◌, ℕ, List, [], ◌∷◌, Option, None, Some, Result, Ok, Err, refl, ap, sym, ◌∙◌, subst}
-use Rattle.std.specs.Prelude.{slice_get, Vec}
+use Rattle.std.proofs.Common.{◌≡◌, ℕ, List, [], ◌∷◌, Option, None, Some, Result, Ok, Err, ap, sym, ◌∙◌, subst}
+use Rattle.std.specs.Prelude.{slice_get}
 use Rattle.std.specs.Option.{option_or}
 use Rattle.std.specs.Result.{IsErrAnd}
-use Rattle.std.specs.declared.alloc.Global.{Global}
 use Rattle.wdf_law.specs.Trees.{AdaptorTree}
 use Rattle.wdf_law.specs.Network.{Network, source_numbers}
 use Rattle.wdf_quant.specs.declared.port_ratio.PortRatio.{PortRatio}

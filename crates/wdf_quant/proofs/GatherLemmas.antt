@@ -1,5 +1,5 @@
 -- One more source among those whose ratios are added.
-use Rattle.std.proofs.Common.{◌≡◌, ℕ, ◌+◌, ◌≤◌, ◌<◌, List, [], ◌∷◌, drop, length, get_or, Option, None, Some, Result, Ok, Err, refl, ap, sym, ◌∙◌, subst, arith}
+use Rattle.std.proofs.Common.{◌≡◌, ℕ, ◌+◌, List, ◌∷◌, drop, Option, None, Some, Result, Ok, Err, ap, sym, ◌∙◌, subst, arith}
 use Rattle.std.specs.Prelude.{slice_get}
 use Rattle.std.specs.Option.{option_or}
 use Rattle.std.specs.Result.{IsErrAnd}
@@ -8,9 +8,9 @@ use Rattle.std.proofs.lemmas.Option.{slice_get_within, get_or_from_slice_get}
 use Rattle.wdf_law.specs.Trees.{AdaptorTree, leaf, series, parallel}
 use Rattle.wdf_law.specs.Network.{Network, unit_of, source_numbers}
 use Rattle.wdf_quant.specs.declared.ratio_fault.RatioFault.{RatioFault}
-use Rattle.wdf_quant.specs.declared.ratio_fault.RatioFault.TheVariants.{Wide, NoMemory}
+use Rattle.wdf_quant.specs.declared.ratio_fault.RatioFault.TheVariants.{Wide}
 use Rattle.wdf_quant.specs.declared.ratio_trees.RatioTrees.{RatioTrees}
-use Rattle.wdf_quant.specs.PortBound.{PortNumbers, NetworkNumbers, ratios_between, ratios_from, with_ratios, summed, zeros, walk_between, walk_from, first_wide, first_wide_from}
+use Rattle.wdf_quant.specs.PortBound.{NetworkNumbers, ratios_between, ratios_from, with_ratios, summed, zeros, walk_between, walk_from, first_wide, first_wide_from}
 use Rattle.wdf_quant.specs.RatioTrees.{AreAtMost, Gathers}
 
 -- no sum has anything yet

@@ -1,15 +1,14 @@
 -- The number of an element's port in a walk is its number in the tree: an element's number stands once.
-use Rattle.std.proofs.Common.{◌≡◌, ℕ, ◌-◌, ◌==◌, ◌<◌, Bool, true, false, if◌then◌else◌, List, [], ◌∷◌, ◌++◌, length, Option, None, Some, refl, ap, sym, ◌∙◌, arith}
+use Rattle.std.proofs.Common.{◌≡◌, ℕ, ◌-◌, ◌==◌, Bool, true, false, if◌then◌else◌, List, [], ◌∷◌, ◌++◌, Option, None, Some, refl, ap, sym, ◌∙◌}
 use Rattle.std.specs.Prelude.{◌||◌, ◌&&◌}
 use Rattle.std.specs.List.{find}
 use Rattle.std.specs.Option.{option_map, option_or}
-use Rattle.std.proofs.lemmas.Bool.{or_left, or_right}
 use Rattle.std.proofs.lemmas.List.Folds.{find-append, list_any-append}
 use Rattle.wdf_law.specs.Trees.{AdaptorTree, leaf, series, parallel, LeafElement, elements_of, first_of}
 use Rattle.wdf_law.specs.Network.{Network, unit_of, elements, has_element, has_leaf, source_numbers}
 use Rattle.wdf_law.specs.TreeRules.{AreDisjoint, HasDistinctLeaves, HasNumbers}
 use Rattle.wdf_quant.specs.declared.port_ratio.PortRatio.{PortRatio}
-use Rattle.wdf_quant.specs.PortBound.{PortNumbers, end, fork, own, NetworkNumbers, carried, beneath, reached, around, ratios_from, with_ratios, summed, zeros, port_numbers, leaf_number, number_at, listed, outwards, walk_from, is_port_of, leaf_in, HasLeafNumbers}
+use Rattle.wdf_quant.specs.PortBound.{PortNumbers, end, fork, NetworkNumbers, carried, beneath, reached, around, ratios_from, with_ratios, summed, zeros, port_numbers, leaf_number, listed, outwards, walk_from, is_port_of, leaf_in, HasLeafNumbers}
 use Rattle.wdf_quant.proofs.WalkLemmas.{IsFitted, beneath-fitted, around-fitted, zeros-fitted, summed-fitted}
 
 option_map-option_or : {A B : Type 0} (f : A → B) (p q : Option A) → option_map f (option_or p q) ≡ option_or (option_map f p) (option_map f q)

@@ -1,5 +1,5 @@
 -- A power of two that a word holds.
-use Rattle.std.proofs.Common.{◌≡◌, ℕ, ◌*◌, ◌%◌, ◌^◌, ◌<◌, ◌≤◌, arith}
+use Rattle.std.proofs.Common.{◌≡◌, ℕ, ◌*◌, ◌%◌, ◌^◌, ◌≤◌, arith}
 use Rattle.std.proofs.Math.Nat.{pow-le-pow_right, mod-eq_of_lt}
 
 pub unit_fits : (k : ℕ) → k ≤ 20 → 1 * 2 ^ k % 4294967296 ≡ 2 ^ k

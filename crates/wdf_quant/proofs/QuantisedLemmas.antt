@@ -1,15 +1,15 @@
 -- A quantised network keeps the rules of a network: its multipliers are in range, its leaves are those of the ports.
-use Rattle.std.proofs.Common.{◌≡◌, ℕ, ◌+◌, ◌-◌, ◌*◌, ◌^◌, ◌<◌, ◌≤◌, max, min, Bool, true, false, if◌then◌else◌, List, [], ◌∷◌, ◌++◌, length, map, refl, ap, sym, ◌∙◌, subst, arith}
+use Rattle.std.proofs.Common.{◌≡◌, ℕ, ◌+◌, ◌-◌, ◌*◌, ◌^◌, ◌<◌, ◌≤◌, max, min, Bool, true, false, if◌then◌else◌, List, [], ◌∷◌, ◌++◌, length, map, refl, sym, subst, arith}
 use Rattle.std.specs.Prelude.{All, IsTrue}
 use Rattle.std.proofs.Math.Nat.{pow-le-pow_right}
 use Rattle.std.proofs.lemmas.List.{map-append}
 use Rattle.std.proofs.lemmas.List.Elements.{All-nil, All-cons, All-same, All-head, All-tail}
 use Rattle.wdf_law.specs.declared.TheConstants.{MAX_SOURCES}
 use Rattle.wdf_law.specs.declared.outlet.Outlet.{Outlet}
-use Rattle.wdf_law.specs.Trees.{AdaptorTree, leaf, series, parallel, LeafElement, elements_of, depth_of}
+use Rattle.wdf_law.specs.Trees.{AdaptorTree, LeafElement, elements_of, depth_of}
 use Rattle.wdf_law.specs.Outline.{outline_elements, outline_depth}
 use Rattle.wdf_law.specs.PortOutline.{PortOutline, leaf_port, series_port, parallel_port, ratio_of, shape_outline, IsRatio, HaveRatios}
-use Rattle.wdf_law.specs.Network.{Network, IsNetwork, Adaptor, adaptors_of, multipliers_of, elements, times_in, numbers_with, has_source, has_outlet}
+use Rattle.wdf_law.specs.Network.{IsNetwork, Adaptor, adaptors_of, multipliers_of, times_in, numbers_with, has_source, has_outlet}
 use Rattle.wdf_frac.specs.Units.{nearest}
 use Rattle.wdf_quant.specs.Multiplier.{multiplier}
 use Rattle.wdf_quant.specs.QuantisedNetwork.{quantised, quantised_network, AreNetworkElements}

@@ -7,7 +7,7 @@ use Rattle.wdf_law.specs.Trees.{AdaptorTree, leaf, series, parallel, first_of}
 use Rattle.wdf_law.specs.Network.{has_leaf}
 use Rattle.wdf_quant.specs.declared.port_ratio.PortRatio.{PortRatio}
 use Rattle.wdf_quant.specs.declared.ratio_tree.RatioTree.{RatioTree, Leaf, Series', Parallel'}
-use Rattle.wdf_quant.specs.PortBound.{PortNumbers, end, fork, own, NetworkNumbers, carried, beneath, reached, around, ratios_between, zeros, summed, listed, outwards, walk_between}
+use Rattle.wdf_quant.specs.PortBound.{PortNumbers, end, fork, NetworkNumbers, carried, beneath, reached, around, ratios_between, zeros, summed, listed, outwards, walk_between}
 use Rattle.wdf_quant.specs.RatioTrees.{tree_of, sums_in, chained, beside}
 use Rattle.wdf_quant.proofs.Listings.{first_wide_append}
 

@@ -1,11 +1,11 @@
 -- A walk has every port of the network.
-use Rattle.std.proofs.Common.{◌≡◌, ℕ, ◌≤◌, Bool, true, false, if◌then◌else◌, List, [], ◌∷◌, ◌++◌, length, refl, ap, sym, ◌∙◌, subst, arith}
-use Rattle.std.specs.Prelude.{All, IsTrue, slice_get, Some}
+use Rattle.std.proofs.Common.{ℕ, ◌≤◌, Bool, true, false, if◌then◌else◌, List, [], ◌∷◌, ◌++◌, length, arith}
+use Rattle.std.specs.Prelude.{All, IsTrue}
 use Rattle.std.proofs.lemmas.List.Elements.{All-head, All-tail, All-nil, All-cons}
 use Rattle.wdf_law.specs.Trees.{AdaptorTree, leaf, series, parallel, first_of}
 use Rattle.wdf_law.specs.Network.{Network, has_leaf, source_numbers}
 use Rattle.wdf_quant.specs.declared.port_ratio.PortRatio.{PortRatio}
-use Rattle.wdf_quant.specs.PortBound.{PortNumbers, end, fork, own, NetworkNumbers, port_numbers, listed, outwards, walk_from, walk_by, walk, EachPort, HasWholeWalk}
+use Rattle.wdf_quant.specs.PortBound.{PortNumbers, end, fork, NetworkNumbers, port_numbers, listed, outwards, walk_by, EachPort, HasWholeWalk}
 use Rattle.wdf_quant.proofs.WalkLemmas.{IsFitted}
 use Rattle.wdf_quant.proofs.LeafLemmas.{AreFitted, numbers-fitted}
 

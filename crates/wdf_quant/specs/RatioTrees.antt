@@ -1,5 +1,5 @@
 -- The program's trees of ratios as its own contracts see them: a tree of adaptors, and two numbers for each of its ports.
-use Rattle.std.specs.Prelude.{◌≡◌, ℕ, ◌^◌, ◌≤◌, true, false, if◌then◌else◌, List, [], ◌∷◌, ◌++◌, Option, None, Some, Result, Ok, Err, ⊤, Vec}
+use Rattle.std.specs.Prelude.{◌≡◌, ℕ, ◌^◌, ◌≤◌, true, false, if◌then◌else◌, List, [], ◌∷◌, ◌++◌, None, Some, Result, Ok, Err, ⊤, Vec}
 use Rattle.std.specs.declared.alloc.Global.{Global}
 use Rattle.wdf_law.specs.Trees.{AdaptorTree, leaf, series, parallel, first_of}
 use Rattle.wdf_law.specs.Network.{Network, has_leaf, source_numbers}

@@ -1,6 +1,6 @@
 -- Walks worked by hand, k = 14 and so q = 16384, against which the definitions of the ports' numbers are checked.
-use Rattle.std.specs.Prelude.{◌≡◌, ℕ, Bool, true, false, List, [], ◌∷◌}
-use Rattle.wdf_law.specs.declared.kind.Kind.TheVariants.{Res, Cap, Ind, Src}
+use Rattle.std.specs.Prelude.{◌≡◌, ℕ, true, false, [], ◌∷◌}
+use Rattle.wdf_law.specs.declared.kind.Kind.TheVariants.{Res, Cap, Src}
 use Rattle.wdf_law.specs.declared.outlet.Outlet.TheVariants.{Load}
 use Rattle.wdf_law.specs.Trees.{leaf, series, parallel}
 use Rattle.wdf_law.specs.Network.{Network}

@@ -1,6 +1,6 @@
 -- The network keeps every rule, so it is not refused.
 use Rattle.std.proofs.Common.{◌≡◌, sym, subst}
-use Rattle.wdf_law.specs.Network.{Network, IsNetwork, network_of}
+use Rattle.wdf_law.specs.Network.{IsNetwork, network_of}
 use Rattle.wdf_law.specs.PortOutline.{port_outline}
 use Rattle.wdf_quant.specs.QuantisedNetwork.{quantised_network}
 use Rattle.wdf_quant.proofs.QuantisedLemmas.{network-rules}

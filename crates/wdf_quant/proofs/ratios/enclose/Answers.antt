@@ -2,7 +2,7 @@ use Rattle.std.proofs.Common.{◌≡◌, sym, ◌∙◌, subst, Err, List}
 use Rattle.std.specs.Prelude.{slice_get, Some}
 use Rattle.wdf_law.specs.Network.{source_numbers}
 use Rattle.wdf_quant.specs.declared.port_ratio.PortRatio.{PortRatio}
-use Rattle.wdf_quant.specs.PortBound.{walk, walk_between, HasLeafNumbers}
+use Rattle.wdf_quant.specs.PortBound.{HasLeafNumbers}
 use Rattle.wdf_quant.specs.RatioTrees.{tree_of, sums_of, IsListOf}
 use Rattle.wdf_quant.proofs.EncloseLemmas.{walk-first, walk-between, encloses-err}
 use Rattle.wdf_quant.proofs.LeafLemmas.{walk-leaf}

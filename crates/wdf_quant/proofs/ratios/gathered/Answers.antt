@@ -1,7 +1,7 @@
 use Rattle.std.proofs.Common.{◌≡◌, ap, sym, ◌∙◌, subst, refl, drop}
 use Rattle.std.specs.Prelude.{slice_get, Some}
 use Rattle.wdf_law.specs.Network.{source_numbers}
-use Rattle.wdf_quant.specs.PortBound.{PortNumbers, NetworkNumbers, with_ratios}
+use Rattle.wdf_quant.specs.PortBound.{NetworkNumbers, with_ratios}
 use Rattle.wdf_quant.specs.RatioTrees.{AreAtMost, tree_of, ratios_of, sums_of}
 use Rattle.wdf_quant.proofs.GatherLemmas.{zeros-most, AreTrees, with-next, narrow-next, wide-here, gathers-wide}
 use Rattle.wdf_quant.proofs.ratios.gathered.Goals as goal
