@@ -1,11 +1,7 @@
 -- When an output value is limited: where what the load wave w comes to, w / 2^down towards zero, is not a
 -- value of bits bits, -2^(bits-1)..=2^(bits-1) - 1.
-use Rattle.std.specs.Prelude.{◌≡◌, ℕ, ◌-◌, ◌^◌, ◌⊎◌, ℤ, pos, neg_ℤ, Bool, ◌||◌, not, int_lt}
+use Rattle.std.specs.Prelude.{ℕ, ◌-◌, ◌^◌, ℤ, pos, neg_ℤ, Bool, ◌||◌, not, int_lt}
 use Rattle.wdf_algebra.specs.Truncation.{trunc}
-
--- the widths of an output value, in bits
-abbrev pub IsOutputWidth : ℕ → Type 0
-IsOutputWidth bits = (bits ≡ 8) ⊎ (bits ≡ 16) ⊎ (bits ≡ 24) ⊎ (bits ≡ 32)
 
 -- z < -2^(bits-1) or 2^(bits-1) ≤ z
 abbrev pub is_outside : ℕ → ℤ → Bool

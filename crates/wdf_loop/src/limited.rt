@@ -1,7 +1,8 @@
-ghost use Rattle.std.specs.Prelude.{◌≡◌, ◌≤◌, ◌-◌, ◌^◌, ℤ, pos, neg_ℤ, ◌≤ℤ◌, ◌<ℤ◌};
+ghost use Rattle.std.specs.Prelude.{◌≡◌, ◌≤◌, ◌-◌, ◌^◌, pos, ◌≤ℤ◌};
+ghost use Rattle.wdf_algebra.specs.Samples.{IsSampleWidth, IsSampleValue};
 ghost use Rattle.wdf_algebra.specs.Truncation.{trunc};
 ghost use Rattle.wdf_law.specs.OutputRule.{limited, output_of};
-ghost use Rattle.wdf_loop.specs.Limiting.{IsOutputWidth, is_limited, is_outside};
+ghost use Rattle.wdf_loop.specs.Limiting.{is_limited, is_outside};
 
 /// An output sample.
 #[derive(Clone, Copy, Debug, PartialEq, Eq)]
@@ -15,7 +16,7 @@ pub struct Limited {
 
 // The first value above those of `bits` bits.
 fn limit_of(bits: u8) -> i64
-    requires { IsOutputWidth bits }
+    requires { IsSampleWidth bits }
     ensures value { result ≡ pos (2 ^ (bits - 1)) }
     ensures low { pos 128 ≤ℤ result }
     ensures high { result ≤ℤ pos (2 ^ 31) }
@@ -47,10 +48,9 @@ fn scaled(w: i64, down: u8) -> i64
 
 // The nearest value of `bits` bits.
 fn nearest(value: i64, bits: u8) -> i64
-    requires { IsOutputWidth bits }
+    requires { IsSampleWidth bits }
     ensures value { result ≡ limited bits value }
-    ensures low { neg_ℤ (pos (2 ^ (bits - 1))) ≤ℤ result }
-    ensures high { result <ℤ pos (2 ^ (bits - 1)) }
+    ensures range { IsSampleValue bits result }
 {
     let limit = limit_of(bits);
     if value >= limit {
@@ -64,7 +64,7 @@ fn nearest(value: i64, bits: u8) -> i64
 
 // Whether no value of `bits` bits is this one.
 fn is_beyond(value: i64, bits: u8) -> bool
-    requires { IsOutputWidth bits }
+    requires { IsSampleWidth bits }
     ensures { result ≡ is_outside bits value }
 {
     let limit = limit_of(bits);
@@ -78,11 +78,10 @@ fn is_beyond(value: i64, bits: u8) -> bool
 /// 16, 24 or 32. A value that is limited is marked; one that only reaches a limit is not.
 pub fn out_sample(w: i64, down: u8, bits: u8) -> Limited
     requires few { down ≤ 33 }
-    requires width { IsOutputWidth bits }
+    requires width { IsSampleWidth bits }
     ensures value { result.value ≡ output_of down bits w }
     ensures limited { result.limited ≡ is_limited down bits w }
-    ensures low { neg_ℤ (pos (2 ^ (bits - 1))) ≤ℤ result.value }
-    ensures high { result.value <ℤ pos (2 ^ (bits - 1)) }
+    ensures range { IsSampleValue bits result.value }
 {
     let value = scaled(w, down);
     Limited {
