@@ -1,0 +1,12 @@
+//! The plain engine: the reference step made runnable, up and down the trees of adaptors.
+#![tactic(auto)]
+
+mod junction;
+mod numbers;
+mod pass;
+mod tree_engine;
+mod walk;
+mod wave_tree;
+mod width;
+
+pub use tree_engine::TreeEngine;
