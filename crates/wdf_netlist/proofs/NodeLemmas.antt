@@ -1,8 +1,8 @@
 -- Nodes in the order in which they are first mentioned, and their numbers.
-use Rattle.std.proofs.Common.{◌≡◌, ◌≢◌, ℕ, zero, suc, ◌+◌, ◌<◌, ◌≤◌, Bool, true, false, eqb, List, [], ◌∷◌, ◌++◌, length, get_or, take, map, flat_map, fold, Some, refl, sym, ap, ◌∙◌, subst, arith, length-append, append_assoc, append-nil}
+use Rattle.std.proofs.Common.{◌≡◌, ◌≢◌, ℕ, zero, suc, ◌+◌, ◌-◌, ◌<◌, ◌≤◌, Bool, true, false, not, cond, ◌&&◌, ◌||◌, eqb, ltb, List, [], ◌∷◌, ◌++◌, length, get_or, take, map, flat_map, fold, Option, Some, None, refl, sym, ap, ◌∙◌, subst, ◌⊎◌, inl, inr, arith, length-append, append_assoc, append-nil, add-one, zero-add}
 use Rattle.std.specs.Prelude.{All, bytes_eq, slice_get}
-use Rattle.std.specs.List.{list_any, range_with_len}
-use Rattle.std.proofs.lemmas.Bool.{cond-true, cond-false, eq-eqb, false≢true, ne_eqb, or_parts}
+use Rattle.std.specs.List.{list_any, position_or_len, range_with_len}
+use Rattle.std.proofs.lemmas.Bool.{cond-true, cond-false, eq-eqb, eqb-true, false≢true, ne_eqb, or_parts}
 use Rattle.std.proofs.lemmas.List.{take_more}
 use Rattle.std.proofs.lemmas.List.Elements.{All-push}
 use Rattle.std.proofs.lemmas.Grind.{flat_map-append}
@@ -10,7 +10,7 @@ use Rattle.wdf_netlist.specs.Circuits.{AreDistinct, first_mentions, with_new}
 use Rattle.wdf_netlist.specs.TextRules.{nodes_of, place_of, with_part}
 use Rattle.wdf_netlist.specs.declared.part.Part.{Part}
 use Rattle.wdf_netlist.proofs.NameLemmas.{same_bytes, same_name}
-use Rattle.wdf_netlist.proofs.KeptLemmas.{distinct_more}
+use Rattle.wdf_netlist.proofs.KeptLemmas.{distinct_more, taken_at}
 
 -- ---- one more
 
