@@ -39,6 +39,12 @@ pub record IsEngine (n : Network) (plan : PlanOf) (left right : AdaptorTree) (so
   pub frames : done ≤ plan.frames
   pub energy : IsReached n plan done (gathered n downs)
 
+-- the same as callers see it
+pub record KeepsPlan (a : EngineValue) : Type 0 where
+  pub fits : Fits a.net a.plan
+  pub frames : a.done ≤ a.plan.frames
+  pub reached : IsReached a.net a.plan a.done (state_of a)
+
 -- a new engine
 pub record IsFresh (a : EngineValue) (n : Network) (plan : PlanOf) : Type 0 where
   pub net : a.net ≡ n

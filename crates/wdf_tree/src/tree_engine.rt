@@ -1,10 +1,10 @@
 ghost use Rattle.std.specs.Prelude.{◌≡◌, ◌<◌, ◌≤◌, ◌^◌, ◌++◌, pos, replicate, length, unsigned_abs, All, IfOk};
-ghost use Rattle.wdf_law.specs.Network.{source_numbers};
+ghost use Rattle.wdf_law.specs.Network.{elements, source_numbers};
 ghost use Rattle.wdf_law.specs.Elements.{signed};
 ghost use Rattle.wdf_law.specs.OutputRule.{is_flipped};
 ghost use Rattle.wdf_law.specs.Trees.{elements_of};
 ghost use Rattle.wdf_bounds.specs.WordBound.{word_limit, Fits};
-ghost use Rattle.wdf_tree.specs.Engines.{state_of, IsFresh, IsNext};
+ghost use Rattle.wdf_tree.specs.Engines.{state_of, IsFresh, IsNext, KeepsPlan};
 ghost use Rattle.wdf_tree.specs.WaveTrees.{tree_of};
 
 use crate::numbers::{gather, reactance_list, source_list};
@@ -149,9 +149,19 @@ impl TreeEngine {
     /// The down waves of all elements in the last frame, in netlist order; each is 0 before the
     /// first.
     pub fn downs(&self) -> &[i64]
-        ensures { result.now ≡ self.now.downs }
+        ensures value { result.now ≡ self.now.downs }
+        ensures each { length result.now ≡ length (elements self.now.net) }
     {
         &self.waves.downs[..self.net.element_count()]
+    }
+
+    /// What the type of every engine keeps: its plan fits its network, no more frames are done than
+    /// the plan's, and the energy stored in its state is at most what the sources can have sent in
+    /// by them.
+    pub fn rules(&self)
+        ensures { KeepsPlan self.now }
+    {
+        let _ = &self.done;
     }
 
     /// How many frames are done.
