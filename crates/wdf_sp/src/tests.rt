@@ -7,7 +7,7 @@ use crate::rerooting::shallowest;
 use std::alloc::{AllocError, Global};
 use std::test::Fail;
 use wdf_law::{Kind, Shape};
-use wdf_netlist::Element;
+use wdf_netlist::{Element, Form, read};
 use wdf_text::{Name, Quantity};
 
 fn element(kind: Kind, from: u32, to: u32) -> Element {
@@ -187,5 +187,32 @@ fn chain_rerooted(rt: HostRuntime) -> Result<(), Fail> {
     let Rooted { left, right } = reroot(shape, 0, root);
     assert_eq!(rt; in_words(alloc, &left)?.as_str(), "3");
     assert_eq!(rt; in_words(alloc, &right)?.as_str(), "s(s(-2,-1),s(0,-4))");
+    Ok(())
+}
+
+// A capacitor and a load between the ends of a source, with the root at the capacitor.
+const ROOTED: &[u8] = b"rate 50000\nsource S a 0 1\nc C a 0 10u\nr L a 0 1\nload L\nroot C\n";
+
+#[test]
+fn a_circuit_of_a_text_is_rooted(rt: HostRuntime) -> Result<(), Fail> {
+    let alloc = rt.alloc();
+    let Ok(netlist) = read(alloc, ROOTED) else {
+        assert!(rt; false);
+        return Ok(());
+    };
+    let Form::Ladder(circuit) = netlist.form() else {
+        assert!(rt; false);
+        return Ok(());
+    };
+    let Ok(shape) = decompose(alloc, circuit) else {
+        assert!(rt; false);
+        return Ok(());
+    };
+    assert_eq!(rt; in_words(alloc, &shape)?.as_str(), "p(1,2)");
+    let root = choose(circuit, &shape);
+    assert_eq!(rt; root, 1);
+    let Rooted { left, right } = reroot(shape, circuit.source(), root);
+    assert_eq!(rt; in_words(alloc, &left)?.as_str(), "1");
+    assert_eq!(rt; in_words(alloc, &right)?.as_str(), "p(0,2)");
     Ok(())
 }
