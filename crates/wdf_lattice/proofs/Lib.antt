@@ -1,4 +1,8 @@
+mod CutLemmas
+mod EngineLemmas
 mod FrameLemmas
+mod HistoryLemmas
 mod OneWave
 mod RunLemmas
+mod RunOverLemmas
 mod WaveLemmas

@@ -1,3 +1,6 @@
+pub mod RunEngines
+pub mod RunnerLaws
+pub mod Runners
 pub mod Sides
 pub mod SolvedWaves
 pub mod WaveLaws

@@ -1,5 +1,6 @@
 //! What the definitions of `specs/` imply: each function is a law, whose contract is proved and
 //! whose body calls laws alone.
+ghost use Rattle.wdf_lattice.specs.RunnerLaws.{GoesOnFromRest};
 ghost use Rattle.wdf_lattice.specs.WaveLaws.{GoesOn, HasOneWave};
 ghost use Rattle.wdf_lattice.specs.WorkedWaves.{AreWorkedWaves};
 
@@ -32,6 +33,14 @@ pub fn one_wave(networks: &Networks)
 #[tactic(auto, using(crate::proofs::OneWave::goes_on))]
 pub fn goes_on(networks: &Networks)
     ensures { GoesOn networks.now }
+{
+    let _ = networks;
+}
+
+/// So a runner's blocks, from rest and however they are cut, give the waves of all their samples.
+#[tactic(auto, using(crate::proofs::HistoryLemmas::goes_on_from_rest))]
+pub fn goes_on_from_rest(networks: &Networks)
+    ensures { GoesOnFromRest networks.now }
 {
     let _ = networks;
 }

@@ -6,7 +6,10 @@
 //! its two branches.
 #![tactic(auto)]
 
+mod engines;
 pub mod laws;
 mod networks;
+mod runner;
 
 pub use networks::Networks;
+pub use runner::Runner;

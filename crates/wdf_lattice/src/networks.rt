@@ -1,6 +1,6 @@
-ghost use Rattle.std.specs.Prelude.{◌≡◌};
+ghost use Rattle.std.specs.Prelude.{◌≡◌, ◌≤◌};
 ghost use Rattle.std.specs.Option.{option_copied};
-ghost use Rattle.wdf_lattice.specs.Sides.{network_at};
+ghost use Rattle.wdf_lattice.specs.Sides.{network_at, sources_driven};
 
 use wdf_law::{Net, Side};
 
@@ -23,6 +23,18 @@ impl Networks {
             (Networks::Lattice { a, .. }, Side::A) => Some(a),
             (Networks::Lattice { b, .. }, Side::B) => Some(b),
             _ => None,
+        }
+    }
+
+    /// How many samples a run takes in each frame: one for each source of its network.
+    pub(crate) fn sources_driven(&self) -> usize
+        ensures count { result ≡ sources_driven self.now }
+        ensures some { 1 ≤ result }
+        ensures few { result ≤ 8 }
+    {
+        match self {
+            Networks::Ladder(net) => net.source_count(),
+            Networks::Lattice { .. } => 1,
         }
     }
 }
