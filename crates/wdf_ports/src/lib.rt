@@ -13,3 +13,6 @@ mod porting;
 pub use element_ratio::leaf_ratio;
 pub use port_fault::PortFault;
 pub use porting::port_tree;
+
+#[cfg(test)]
+mod tests;

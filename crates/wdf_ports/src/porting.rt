@@ -41,12 +41,7 @@ fn in_parallel(r1: u64, r2: u64) -> u64
 }
 
 // The ports of a shape of elements that are there.
-fn ports(
-    alloc: Global,
-    rate: u32,
-    circuit: &Circuit,
-    shape: &Shape,
-) -> Result<PortTree, PortFault>
+fn ports(alloc: Global, rate: u32, circuit: &Circuit, shape: &Shape) -> Result<PortTree, PortFault>
     requires slowest { 1 ≤ rate }
     requires fastest { rate ≤ MAX_RATE }
     requires elements { AreBelow (length circuit.now.elements) (outline shape.now) }
