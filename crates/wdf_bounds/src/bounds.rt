@@ -66,7 +66,8 @@ pub fn plan_check(
     ensures answer { BoundsMeet plan.now (walk net.now) result }
     ensures fits { OnOk result (Fits net.now plan.now) }
 {
-    let _width = net.k();
+    // The network is there for the contract alone: its ports and their numbers are the list's.
+    let _ = net;
     let limit = limit_of(plan);
     let scale = scale_of(plan);
     let mut words = Vec::new(alloc);

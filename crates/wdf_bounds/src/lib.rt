@@ -5,6 +5,8 @@ mod bound_fault;
 mod bounds;
 pub mod laws;
 mod plan;
+#[cfg(test)]
+mod tests;
 
 pub use bound_fault::BoundFault;
 pub use bounds::{Bounds, plan_check};

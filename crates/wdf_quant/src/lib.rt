@@ -12,6 +12,8 @@ mod ratio_fault;
 mod ratio_tree;
 mod ratio_trees;
 mod ratios;
+#[cfg(test)]
+mod tests;
 mod wide_port;
 
 pub use multiplying::multiplier;
