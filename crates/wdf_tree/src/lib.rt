@@ -4,6 +4,8 @@
 mod junction;
 mod numbers;
 mod pass;
+#[cfg(test)]
+mod tests;
 mod tree_engine;
 mod walk;
 mod wave_tree;
