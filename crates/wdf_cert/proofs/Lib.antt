@@ -1,0 +1,8 @@
+pub mod CertReading
+pub mod OneFile
+pub mod OneToken
+pub mod Parts
+pub mod ReadingLemmas
+pub mod Sizes
+pub mod TakenTokens
+pub mod WritingLemmas

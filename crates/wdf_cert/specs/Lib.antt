@@ -1,0 +1,6 @@
+pub mod CertFormat
+pub mod CertText
+pub mod Format
+pub mod Laws
+pub mod Making
+pub mod Scanning
