@@ -25,7 +25,7 @@ ports_with ratio (joined c l r) = joined_ports c (ports_with ratio l) (ports_wit
 -- the first port whose ratio is out of range, parts before their junction and the first part first; a junction's port
 -- is named by its first leaf
 abbrev pub range_fault : PortOutline → Option (ℕ × Bool)
-range_fault (leaf_port elem kind flip ratio) = out_of_range elem ratio
+range_fault (leaf_port elem _ _ ratio) = out_of_range elem ratio
 range_fault (series_port ratio l r) = option_or (range_fault l) (option_or (range_fault r) (out_of_range (outline_first (shape_outline l)) ratio))
 range_fault (parallel_port ratio l r) = option_or (range_fault l) (option_or (range_fault r) (out_of_range (outline_first (shape_outline l)) ratio))
 
@@ -37,5 +37,5 @@ GivesPorts p (Err NoMemory) = Unit {0}
 
 -- all leaves of an outline have numbers below the count
 abbrev pub AreBelow : ℕ → Outline → Type 0
-AreBelow count (single elem kind flip) = elem < count
+AreBelow count (single elem _ _) = elem < count
 AreBelow count (joined c l r) = AreBelow count l × AreBelow count r
