@@ -54,8 +54,8 @@ parallel_waves q g1 g2 g u1 u2 d b1 b2 b d1 d2 u some is e1 e2 e =
     let B1 = var 7 in
     let B2 = var 8 in
     let B = var 9 in
-    let D1 = var 10 in
-    let D2 = var 11 in
+    let Down1 = var 10 in
+    let Down2 = var 11 in
     let U = var 12 in
     let minus = con (negsuc 0) in
     record {
@@ -64,10 +64,10 @@ parallel_waves q g1 g2 g u1 u2 d b1 b2 b d1 d2 u some is e1 e2 e =
       currents =
           cancel q (pos g1 *ℤ (d1 -ℤ u1) +ℤ pos g2 *ℤ (d2 -ℤ u2)) (pos g *ℤ (d -ℤ u)) some
           (linear_combination (pos q ∷ pos g1 ∷ pos g2 ∷ pos g ∷ u1 ∷ u2 ∷ d ∷ b1 ∷ b2 ∷ b ∷ d1 ∷ d2 ∷ u ∷ [])
-          (Q ⊗ (G1 ⊗ (D1 ⊖ U1) ⊕ G2 ⊗ (D2 ⊖ U2))) (Q ⊗ (G ⊗ (D ⊖ U)))
+          (Q ⊗ (G1 ⊗ (Down1 ⊖ U1) ⊕ G2 ⊗ (Down2 ⊖ U2))) (Q ⊗ (G ⊗ (D ⊖ U)))
           (record { by = con (pos 1); left = G1 ⊗ (B1 ⊖ Q ⊗ U1) ⊕ G2 ⊗ (B2 ⊖ Q ⊗ U2); right = G ⊗ (Q ⊗ D ⊖ B) }
-          ∷ record { by = minus ⊗ G1; left = B1; right = Q ⊗ D1 }
-          ∷ record { by = minus ⊗ G2; left = B2; right = Q ⊗ D2 }
+          ∷ record { by = minus ⊗ G1; left = B1; right = Q ⊗ Down1 }
+          ∷ record { by = minus ⊗ G2; left = B2; right = Q ⊗ Down2 }
           ∷ record { by = minus ⊗ G; left = B; right = Q ⊗ U }
           ∷ [])
           (is.currents, (e1, (e2, (e, tt))))
@@ -85,13 +85,13 @@ same_current q g1 g u1 d b1 b d1 u some e1 e h =
     let D = var 4 in
     let B1 = var 5 in
     let B = var 6 in
-    let D1 = var 7 in
+    let Down1 = var 7 in
     let U = var 8 in
     let minus = con (negsuc 0) in
     cancel q (pos g1 *ℤ (d1 -ℤ u1)) (pos g *ℤ (d -ℤ u)) some
-    (linear_combination (pos q ∷ pos g1 ∷ pos g ∷ u1 ∷ d ∷ b1 ∷ b ∷ d1 ∷ u ∷ []) (Q ⊗ (G1 ⊗ (D1 ⊖ U1))) (Q ⊗ (G ⊗ (D ⊖ U)))
+    (linear_combination (pos q ∷ pos g1 ∷ pos g ∷ u1 ∷ d ∷ b1 ∷ b ∷ d1 ∷ u ∷ []) (Q ⊗ (G1 ⊗ (Down1 ⊖ U1))) (Q ⊗ (G ⊗ (D ⊖ U)))
     (record { by = con (pos 1); left = G1 ⊗ (B1 ⊖ Q ⊗ U1); right = G ⊗ (Q ⊗ D ⊖ B) }
-    ∷ record { by = minus ⊗ G1; left = B1; right = Q ⊗ D1 }
+    ∷ record { by = minus ⊗ G1; left = B1; right = Q ⊗ Down1 }
     ∷ record { by = minus ⊗ G; left = B; right = Q ⊗ U }
     ∷ [])
     (h, (e1, (e, tt)))
@@ -107,8 +107,8 @@ series_waves q g1 g2 g u1 u2 d b1 b2 b d1 d2 u some is e1 e2 e =
     let B1 = var 4 in
     let B2 = var 5 in
     let B = var 6 in
-    let D1 = var 7 in
-    let D2 = var 8 in
+    let Down1 = var 7 in
+    let Down2 = var 8 in
     let U = var 9 in
     let one = con (pos 1) in
     record {
@@ -116,10 +116,10 @@ series_waves q g1 g2 g u1 u2 d b1 b2 b d1 d2 u some is e1 e2 e =
       second = same_current q g2 g u2 d b2 b d2 u some e2 e is.second;
       voltages =
           cancel q (d +ℤ u) ((d1 +ℤ u1) +ℤ (d2 +ℤ u2)) some
-          (linear_combination (pos q ∷ u1 ∷ u2 ∷ d ∷ b1 ∷ b2 ∷ b ∷ d1 ∷ d2 ∷ u ∷ []) (Q ⊗ (D ⊕ U)) (Q ⊗ ((D1 ⊕ U1) ⊕ (D2 ⊕ U2)))
+          (linear_combination (pos q ∷ u1 ∷ u2 ∷ d ∷ b1 ∷ b2 ∷ b ∷ d1 ∷ d2 ∷ u ∷ []) (Q ⊗ (D ⊕ U)) (Q ⊗ ((Down1 ⊕ U1) ⊕ (Down2 ⊕ U2)))
           (record { by = one; left = Q ⊗ D ⊕ B; right = (Q ⊗ U1 ⊕ B1) ⊕ (Q ⊗ U2 ⊕ B2) }
-          ∷ record { by = one; left = B1; right = Q ⊗ D1 }
-          ∷ record { by = one; left = B2; right = Q ⊗ D2 }
+          ∷ record { by = one; left = B1; right = Q ⊗ Down1 }
+          ∷ record { by = one; left = B2; right = Q ⊗ Down2 }
           ∷ record { by = con (negsuc 0); left = B; right = Q ⊗ U }
           ∷ [])
           (is.voltages, (e1, (e2, (e, tt))))
@@ -135,26 +135,26 @@ root_waves q g1 g2 u1 u2 b1 b2 d1 d2 some is e1 e2 =
     let U2 = var 4 in
     let B1 = var 5 in
     let B2 = var 6 in
-    let D1 = var 7 in
-    let D2 = var 8 in
+    let Down1 = var 7 in
+    let Down2 = var 8 in
     let one = con (pos 1) in
     let minus = con (negsuc 0) in
     record {
       voltages =
           cancel q (d1 +ℤ u1) (d2 +ℤ u2) some
-          (linear_combination (pos q ∷ pos g1 ∷ pos g2 ∷ u1 ∷ u2 ∷ b1 ∷ b2 ∷ d1 ∷ d2 ∷ []) (Q ⊗ (D1 ⊕ U1)) (Q ⊗ (D2 ⊕ U2))
+          (linear_combination (pos q ∷ pos g1 ∷ pos g2 ∷ u1 ∷ u2 ∷ b1 ∷ b2 ∷ d1 ∷ d2 ∷ []) (Q ⊗ (Down1 ⊕ U1)) (Q ⊗ (Down2 ⊕ U2))
           (record { by = one; left = Q ⊗ U1 ⊕ B1; right = Q ⊗ U2 ⊕ B2 }
-          ∷ record { by = minus; left = B1; right = Q ⊗ D1 }
-          ∷ record { by = one; left = B2; right = Q ⊗ D2 }
+          ∷ record { by = minus; left = B1; right = Q ⊗ Down1 }
+          ∷ record { by = one; left = B2; right = Q ⊗ Down2 }
           ∷ [])
           (is.voltages, (e1, (e2, tt)))
           refl);
       currents =
           cancel q (pos g1 *ℤ (d1 -ℤ u1) +ℤ pos g2 *ℤ (d2 -ℤ u2)) (pos 0) some
-          (linear_combination (pos q ∷ pos g1 ∷ pos g2 ∷ u1 ∷ u2 ∷ b1 ∷ b2 ∷ d1 ∷ d2 ∷ []) (Q ⊗ (G1 ⊗ (D1 ⊖ U1) ⊕ G2 ⊗ (D2 ⊖ U2))) (Q ⊗ con (pos 0))
+          (linear_combination (pos q ∷ pos g1 ∷ pos g2 ∷ u1 ∷ u2 ∷ b1 ∷ b2 ∷ d1 ∷ d2 ∷ []) (Q ⊗ (G1 ⊗ (Down1 ⊖ U1) ⊕ G2 ⊗ (Down2 ⊖ U2))) (Q ⊗ con (pos 0))
           (record { by = one; left = G1 ⊗ (B1 ⊖ Q ⊗ U1) ⊕ G2 ⊗ (B2 ⊖ Q ⊗ U2); right = con (pos 0) }
-          ∷ record { by = minus ⊗ G1; left = B1; right = Q ⊗ D1 }
-          ∷ record { by = minus ⊗ G2; left = B2; right = Q ⊗ D2 }
+          ∷ record { by = minus ⊗ G1; left = B1; right = Q ⊗ Down1 }
+          ∷ record { by = minus ⊗ G2; left = B2; right = Q ⊗ Down2 }
           ∷ [])
           (is.currents, (e1, (e2, tt)))
           refl);
