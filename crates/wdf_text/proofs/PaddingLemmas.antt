@@ -17,8 +17,10 @@ padded_name bytes some few letters =
     let P : List ℕ → Type 0 = λ b. IsTrue (is_name_or_at_sign b) in
     record {
       some = some;
-      fits = few;
-      rest = ap padded front ∙ ap (λ z. bytes ++ z) (sym zeros);
-      long = omega (arith, length-append bytes (drop (length bytes) (replicate 16 0)), ap (length {A = ℕ}) zeros, length-replicate {A = ℕ} (16 - length bytes) 0);
+      padded = record {
+        fits = few;
+        rest = ap padded front ∙ ap (λ z. bytes ++ z) (sym zeros);
+        long = omega (arith, length-append bytes (drop (length bytes) (replicate 16 0)), ap (length {A = ℕ}) zeros, length-replicate {A = ℕ} (16 - length bytes) 0);
+      };
       letters = subst P (sym front) (or_left _ (bytes_eq bytes at_sign) (and_from _ _ (and_from (nat_le 1 (length bytes)) (nat_le (length bytes) 16) (le-leb _ _ some) (le-leb _ _ few)) letters));
     }

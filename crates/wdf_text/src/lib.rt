@@ -8,6 +8,7 @@
 mod cursor;
 mod decimal_error;
 mod decimals;
+mod line;
 mod name;
 mod numbers;
 mod place;
@@ -21,6 +22,7 @@ mod writers;
 pub use cursor::{Cursor, MAX_TEXT};
 pub use decimal_error::DecimalError;
 pub use decimals::decimal;
+pub use line::{Line, MAX_LINE};
 pub use name::Name;
 pub use numbers::whole;
 pub use quantity::Quantity;

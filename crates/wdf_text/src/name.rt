@@ -30,8 +30,8 @@ impl Model for Name {
     ghost inverse = { λ bytes. record { bytes = padded bytes; len = length bytes } };
 
     ghost inverse_ok = { λ n h i. record {
-      bytes = h.rest i;
-      len = length-take-le n.len n.bytes (omega (arith, h.fits, h.long)) i;
+      bytes = h.padded.rest i;
+      len = length-take-le n.len n.bytes (omega (arith, h.padded.fits, h.padded.long)) i;
     } };
 }
 
