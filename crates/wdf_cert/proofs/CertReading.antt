@@ -1,6 +1,6 @@
 -- A certificate and a file of certificates, read part by part, and where each may fail.
-use Rattle.std.proofs.Common.{◌≡◌, ℕ, zero, suc, ◌+◌, ◌-◌, ◌*◌, ◌^◌, ◌<◌, ◌≤◌, List, [], ◌∷◌, ◌++◌, length, drop, refl, sym, ap, ◌∙◌, subst, arith}
-use Rattle.std.specs.Prelude.{All, decimal, codes, Result, Ok, Err, Option, None, Some}
+use Rattle.std.proofs.Common.{◌≡◌, ℕ, ◌-◌, ◌^◌, ◌<◌, ◌≤◌, List, [], ◌++◌, length, drop, refl, ap, ◌∙◌, subst, arith}
+use Rattle.std.specs.Prelude.{All, decimal, codes, Ok, Err, Option, None, Some}
 use Rattle.std.proofs.lemmas.List.{drop_all, length-drop}
 use Rattle.std.proofs.Math.Nat.{pow-le-pow_right}
 use Rattle.wdf_residue.specs.Matrix.{IsSquare}
@@ -8,7 +8,7 @@ use Rattle.wdf_check.specs.Certificate.{Certificate}
 use Rattle.wdf_cert.specs.declared.cert_text_fault.CertTextFault.{CertTextFault}
 use Rattle.wdf_cert.specs.declared.cert_text_fault.CertTextFault.TheVariants.{Syntax, Range, NoMemory}
 use Rattle.wdf_cert.specs.Format.{Format, finish, finish_or, HasFault}
-use Rattle.wdf_cert.specs.CertText.{line, counted, cert_text, cert_text_before, file_text, IsInRange}
+use Rattle.wdf_cert.specs.CertText.{line, counted, cert_text_before, file_text}
 use Rattle.wdf_cert.specs.CertFormat.{counted_numbers, head_format, inverse_format, cert_format, file_format, ReadsFile}
 use Rattle.wdf_cert.specs.Scanning.{Fails, plain_part, ReadsCounted, ReadsHead, ReadsInverse, ReadsCert}
 use Rattle.wdf_cert.proofs.Parts.{fails-behind}

@@ -1,16 +1,15 @@
 -- A text is that of one list of certificates, and has no fault.
-use Rattle.std.proofs.Common.{◌≡◌, ℕ, zero, suc, ◌+◌, ◌-◌, ◌*◌, ◌^◌, ◌<◌, ◌≤◌, Bool, true, List, [], ◌∷◌, ◌++◌, length, take, drop, refl, sym, ap, ◌∙◌, subst, arith}
-use Rattle.std.specs.Prelude.{All, decimal, codes, Option, None, Some}
+use Rattle.std.proofs.Common.{◌≡◌, ℕ, zero, suc, ◌+◌, ◌-◌, ◌*◌, ◌^◌, ◌<◌, ◌≤◌, true, List, [], ◌∷◌, ◌++◌, length, take, drop, refl, sym, ap, ◌∙◌, subst, arith}
+use Rattle.std.specs.Prelude.{All, decimal, codes, None, Some}
 use Rattle.std.proofs.lemmas.List.{append_cancel_left, take-append-drop, length-take-le, length-drop}
 use Rattle.std.proofs.lemmas.List.Elements.{All-head, All-tail, All-take, All-drop}
 use Rattle.std.proofs.Math.Nat.{pow-le-pow_right}
-use mathlib.Core.Logic.{◌⊎◌, inl, inr}
 use Rattle.wdf_residue.specs.Residue.{prime, AreResidues}
 use Rattle.wdf_check.specs.Certificate.{Certificate, HasSquareInverse}
 use Rattle.wdf_cert.specs.declared.cert_text_fault.CertTextFault.{CertTextFault}
-use Rattle.wdf_cert.specs.Format.{Format, finish, finish_or, token, Slot, word, mark, number, ends_word, spelled, Begins, Meets, HasFault}
-use Rattle.wdf_cert.specs.CertText.{line, spaced, counted, number_line, number_lines, cert_text, cert_text_before, file_text, IsInRange, AreInRange, AreSquare}
-use Rattle.wdf_cert.specs.CertFormat.{word_mark, spaced_numbers, counted_numbers, residue_line, residue_lines, head_format, inverse_format, cert_format, file_format}
+use Rattle.wdf_cert.specs.Format.{Format, finish, finish_or, token, Slot, word, mark, number, ends_word, spelled, Meets, HasFault}
+use Rattle.wdf_cert.specs.CertText.{line, spaced, counted, number_line, number_lines, cert_text, cert_text_before, IsInRange}
+use Rattle.wdf_cert.specs.CertFormat.{word_mark, spaced_numbers, counted_numbers, residue_line, residue_lines, inverse_format, cert_format}
 use Rattle.wdf_cert.specs.Laws.{IsOneFile, IsAccepted}
 use Rattle.wdf_cert.proofs.OneToken.{one-token, past}
 

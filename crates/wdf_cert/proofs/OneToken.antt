@@ -1,5 +1,5 @@
 -- A text begins with a token of a kind in one way at most.
-use Rattle.std.proofs.Common.{◌≡◌, ℕ, zero, suc, ◌+◌, ◌-◌, ◌*◌, ◌/◌, ◌%◌, ◌^◌, ◌<◌, ◌≤◌, Bool, true, false, not, ◌&&◌, ◌||◌, ◌==◌, List, [], ◌∷◌, ◌++◌, length, map, refl, sym, ap, ◌∙◌, subst, arith}
+use Rattle.std.proofs.Common.{◌≡◌, ℕ, zero, suc, ◌+◌, ◌-◌, ◌*◌, ◌/◌, ◌%◌, ◌^◌, ◌<◌, ◌≤◌, Bool, true, false, not, ◌&&◌, List, [], ◌∷◌, ◌++◌, length, map, refl, sym, ap, ◌∙◌, subst, arith}
 use Rattle.std.specs.Prelude.{decimal}
 use Rattle.std.specs.List.{list_all}
 use Rattle.std.specs.Char.{is_ascii_digit}
@@ -9,10 +9,10 @@ use Rattle.std.proofs.lemmas.List.{append_cancel_left, map-append, length_push}
 use Rattle.std.proofs.lemmas.List.Folds.{list_all-append}
 use Rattle.std.proofs.lemmas.Int.Digits.{number_push}
 use Rattle.std.proofs.lemmas.Fmt.{decimal_by_steps_wide}
-use mathlib.Core.Logic.{◌⊎◌, inl, inr}
+use mathlib.Core.Logic.{inl, inr}
 use Rattle.wdf_text.specs.Numbers.{number_of}
 use Rattle.wdf_cert.specs.declared.cert_text_fault.CertTextFault.{CertTextFault}
-use Rattle.wdf_cert.specs.Format.{Slot, word, mark, number, is_word_byte, ends_word, spelled, Begins, IsInSlot, Meets, Misses, Format, token, HasFault}
+use Rattle.wdf_cert.specs.Format.{Slot, word, mark, number, is_word_byte, ends_word, spelled, Begins, IsInSlot, Meets, Format, token, HasFault}
 
 -- ---- digits
 

@@ -1,9 +1,9 @@
 -- Parts of a format, one after the other.
-use Rattle.std.proofs.Common.{◌≡◌, ℕ, ◌+◌, List, length, drop, sym, subst}
-use mathlib.Core.Logic.{◌⊎◌, inl, inr}
+use Rattle.std.proofs.Common.{ℕ, List, drop, sym, subst}
+use mathlib.Core.Logic.{inl, inr}
 use Rattle.wdf_cert.specs.declared.cert_text_fault.CertTextFault.{CertTextFault}
 use Rattle.wdf_cert.specs.declared.cert_text_fault.CertTextFault.TheVariants.{Syntax, Range, NoMemory}
-use Rattle.wdf_cert.specs.Format.{Format, token, Slot, spelled, Misses, HasFault}
+use Rattle.wdf_cert.specs.Format.{Format, token, Slot, Misses, HasFault}
 use Rattle.wdf_cert.specs.Scanning.{Takes, Leads, Fails}
 
 -- a token that is there

@@ -1,17 +1,15 @@
 -- The parts of a certificate's text, read one after the other, and where each may fail.
-use Rattle.std.proofs.Common.{◌≡◌, ℕ, zero, suc, ◌+◌, ◌-◌, ◌*◌, ◌^◌, ◌<◌, ◌≤◌, List, [], ◌∷◌, ◌++◌, length, take, drop, refl, sym, ap, ◌∙◌, subst, arith}
-use Rattle.std.specs.Prelude.{All, decimal, codes, Result, Ok, Err, Option, None, Some}
+use Rattle.std.proofs.Common.{◌≡◌, ℕ, zero, suc, ◌+◌, ◌-◌, ◌*◌, ◌<◌, ◌≤◌, List, [], ◌∷◌, ◌++◌, length, take, drop, refl, sym, ap, ◌∙◌, subst, arith}
+use Rattle.std.specs.Prelude.{All, decimal, codes}
 use Rattle.std.proofs.lemmas.List.{take_all, nil_from_length, take-append-le, drop-append-le, length-drop}
 use Rattle.std.proofs.lemmas.List.Elements.{All-cons}
-use mathlib.Core.Logic.{◌⊎◌, inl, inr}
 use Rattle.wdf_residue.specs.Residue.{prime, AreResidues}
 use Rattle.wdf_cert.specs.declared.cert_text_fault.CertTextFault.{CertTextFault}
-use Rattle.wdf_cert.specs.declared.cert_text_fault.CertTextFault.TheVariants.{Syntax, Range, NoMemory}
-use Rattle.wdf_cert.specs.Format.{Format, finish, finish_or, token, Slot, word, mark, number, spelled, Misses, HasFault}
-use Rattle.wdf_cert.specs.CertText.{line, spaced, counted, number_line, number_lines}
-use Rattle.wdf_cert.specs.CertFormat.{word_mark, spaced_numbers, counted_numbers, residue_line, residue_lines, head_format, inverse_format, cert_format}
-use Rattle.wdf_cert.specs.Scanning.{Takes, Leads, Fails, plain_part, Reads, ReadsSpaced, ReadsCounted, ReadsLine, ReadsLines, ReadsHead, ReadsInverse}
-use Rattle.wdf_cert.proofs.Parts.{token-leads, token-fails, fails-behind, misses-behind}
+use Rattle.wdf_cert.specs.Format.{Format, token, word, mark, number, Misses, HasFault}
+use Rattle.wdf_cert.specs.CertText.{line, spaced, number_line, number_lines}
+use Rattle.wdf_cert.specs.CertFormat.{word_mark, spaced_numbers, counted_numbers, residue_line, residue_lines, head_format, inverse_format}
+use Rattle.wdf_cert.specs.Scanning.{Takes, Fails, plain_part, Reads, ReadsSpaced, ReadsCounted, ReadsLine, ReadsLines, ReadsHead, ReadsInverse}
+use Rattle.wdf_cert.proofs.Parts.{token-leads, fails-behind, misses-behind}
 
 -- ---- a word and the byte behind it
 

@@ -1,5 +1,5 @@
 -- Tokens that are taken and tokens that are missed, by what stands at an offset.
-use Rattle.std.proofs.Common.{◌≡◌, ◌≢◌, ℕ, zero, suc, ◌+◌, ◌-◌, ◌*◌, ◌^◌, ◌<◌, ◌≤◌, Bool, true, false, ◌&&◌, List, [], ◌∷◌, ◌++◌, length, take, drop, get_or, refl, sym, ap, ◌∙◌, subst, arith}
+use Rattle.std.proofs.Common.{◌≡◌, ℕ, ◌+◌, ◌-◌, ◌*◌, ◌^◌, ◌<◌, ◌≤◌, true, List, [], ◌∷◌, ◌++◌, length, take, drop, get_or, refl, sym, ap, ◌∙◌, arith}
 use Rattle.std.specs.Prelude.{decimal}
 use Rattle.std.specs.List.{list_all}
 use Rattle.std.specs.Char.{is_ascii_digit}
@@ -12,11 +12,10 @@ use Rattle.std.proofs.lemmas.Int.Digits.{number_push}
 use Rattle.std.proofs.lemmas.Fmt.{length-decimal-le_wide}
 use mathlib.Core.Logic.{◌⊎◌, inl, inr}
 use Rattle.wdf_text.specs.Numbers.{digits_of_bytes, number_of}
-use Rattle.wdf_cert.specs.declared.cert_text_fault.CertTextFault.{CertTextFault}
 use Rattle.wdf_cert.specs.declared.cert_text_fault.CertTextFault.TheVariants.{Syntax, Range}
 use Rattle.wdf_cert.specs.Format.{word, mark, number, is_word_byte, ends_word, Misses}
 use Rattle.wdf_cert.specs.Scanning.{Takes}
-use Rattle.wdf_cert.proofs.OneToken.{AreDigits, decimal-digits, small-wide, one-word}
+use Rattle.wdf_cert.proofs.OneToken.{decimal-digits, small-wide, one-word}
 
 -- the text behind an offset, cut at another
 cut : (text : List ℕ) (at next : ℕ) → at ≤ next → drop at text ≡ take (next - at) (drop at text) ++ drop next text

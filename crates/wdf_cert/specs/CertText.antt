@@ -9,7 +9,6 @@
 --   (n lines of n numbers each)
 --   end
 use Rattle.std.specs.Prelude.{ℕ, ◌-◌, ◌^◌, ◌≤◌, zero, suc, List, [], ◌∷◌, ◌++◌, length, take, drop, All, codes, decimal, Option, None, Some}
-use Rattle.std.specs.List.{flat_map}
 use Rattle.wdf_check.specs.Certificate.{Certificate, HasSquareInverse}
 
 -- a line, and the text behind it

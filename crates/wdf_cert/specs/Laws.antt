@@ -1,6 +1,6 @@
 -- What the text of certificates implies.
-use Rattle.std.specs.Prelude.{◌≡◌, List, Option, ℕ}
-use Rattle.wdf_check.specs.Certificate.{Certificate, HasSquareInverse}
+use Rattle.std.specs.Prelude.{◌≡◌, Option, ℕ}
+use Rattle.wdf_check.specs.Certificate.{Certificate}
 use Rattle.wdf_cert.specs.declared.cert_text_fault.CertTextFault.{CertTextFault}
 use Rattle.wdf_cert.specs.Format.{HasFault}
 use Rattle.wdf_cert.specs.CertFormat.{file_format}

@@ -1,5 +1,5 @@
 -- What the maker of certificates answers.
-use Rattle.std.specs.Prelude.{ℕ, List, Result, Ok, Err}
+use Rattle.std.specs.Prelude.{Result, Ok, Err}
 use Rattle.wdf_law.specs.Network.{Network}
 use Rattle.wdf_residue.specs.Elimination.{AreFirstIndependent, IsFirstDependence}
 use Rattle.wdf_check.specs.Observability.{observability}

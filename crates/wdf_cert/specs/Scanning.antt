@@ -1,12 +1,12 @@
 -- What reading a part of a text does. An offset stands for the text behind it.
-use Rattle.std.specs.Prelude.{◌≡◌, ℕ, ◌+◌, ◌*◌, ◌≤◌, List, ◌++◌, length, drop, All, codes, decimal, Vec}
+use Rattle.std.specs.Prelude.{◌≡◌, ℕ, ◌+◌, ◌*◌, ◌≤◌, List, ◌++◌, length, drop, All, codes, decimal}
 use Rattle.wdf_residue.specs.Residue.{AreResidues}
 use Rattle.wdf_check.specs.Certificate.{Certificate}
 use Rattle.wdf_cert.specs.declared.cert_text_fault.CertTextFault.{CertTextFault}
 use Rattle.wdf_cert.specs.declared.cert_text_fault.CertTextFault.TheVariants.{Syntax, Range, NoMemory}
 use Rattle.wdf_cert.specs.Format.{Format, Slot, spelled, Meets, HasFault}
 use Rattle.wdf_cert.specs.CertText.{line, spaced, counted, number_line, number_lines, cert_text_before, IsInRange}
-use Rattle.wdf_cert.specs.CertFormat.{word_mark, spaced_numbers, counted_numbers, residue_line, residue_lines, head_format, inverse_format, cert_format}
+use Rattle.wdf_cert.specs.CertFormat.{spaced_numbers, counted_numbers, residue_line, residue_lines, head_format, inverse_format, cert_format}
 
 -- the token of a slot stands between two offsets
 pub record Takes (slot : Slot) (v : ℕ) (text : List ℕ) (at end : ℕ) : Type 0 where

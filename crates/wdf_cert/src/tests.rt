@@ -73,6 +73,35 @@ inverse\n\
 531573442767879772 972259841017283879\n\
 end\n";
 
+const CROSSOVER_TWEETER: &[u8] = b"wdfcert 1\n\
+k 14\n\
+multipliers 3 16205 3375 1700\n\
+rows 2 0 1\n\
+inverse\n\
+1205267594724036091 1152921504606846975\n\
+625885205236700561 938613742574044827\n\
+end\n";
+
+const PHONO_EQUALISER: &[u8] = b"wdfcert 1\n\
+k 14\n\
+multipliers 5 16275 16193 15010 16365 15878\n\
+rows 2 0 2\n\
+inverse\n\
+526251182452561006 467464262267812087\n\
+679807905277671141 1522512791824938114\n\
+end\n";
+
+const TELEPHONE_BAND: &[u8] = b"wdfcert 1\n\
+k 14\n\
+multipliers 5 14369 16097 16313 14336 71\n\
+rows 4 0 1 2 3\n\
+inverse\n\
+470843471787585138 576460752303423488 1169599368430078109 1729382256910270463\n\
+504199199434047405 1729382256910270463 1169599368430078109 1729382256910270463\n\
+1615500383339853805 1790855938745444445 1615500383339853805 686649427290999340\n\
+1133239442659825874 727932452112201954 1172603566553868077 1739190939220833921\n\
+end\n";
+
 const TWO_SOURCES: &[u8] = b"wdfcert 1\n\
 k 14\n\
 multipliers 4 13789 5140 12800 12873\n\
@@ -141,6 +170,10 @@ const FAULTS: &[(&[u8], CertTextFault)] = &[
         CertTextFault::Syntax { at: 30 },
     ),
     (
+        b"wdfcert 1\nk 14\nmultipliers 2 5461 8192\nrows 1 0\n",
+        CertTextFault::Syntax { at: 48 },
+    ),
+    (
         b"wdfcert 1\nk 14\nmultipliers 2 5461 8192\nrows 1 0\ninverse\n2305843009213693951\nend\n",
         CertTextFault::Range { at: 56 },
     ),
@@ -185,6 +218,44 @@ fn crossover_woofer(alloc: Global) -> Result<Net, Fail> {
     let load = parallel(alloc, 13_293, leaf(2, Kind::Cap), leaf(3, Kind::Res))?;
     let right = series(alloc, 16_034, leaf(1, Kind::Ind), load)?;
     Ok(Net::new(14, 16_361, leaf(0, Kind::Src), right, Outlet::Load(3))?)
+}
+
+fn crossover_tweeter(alloc: Global) -> Result<Net, Fail> {
+    let load = parallel(alloc, 1700, leaf(2, Kind::Ind), leaf(3, Kind::Res))?;
+    let right = series(alloc, 3375, leaf(1, Kind::Cap), load)?;
+    Ok(Net::new(14, 16_205, leaf(0, Kind::Src), right, Outlet::Load(3))?)
+}
+
+fn phono_equaliser(alloc: Global) -> Result<Net, Fail> {
+    let first = parallel(alloc, 16_365, leaf(2, Kind::Cap), leaf(5, Kind::Res))?;
+    let second = series(alloc, 15_878, leaf(3, Kind::Res), leaf(4, Kind::Cap))?;
+    let load = parallel(alloc, 15_010, first, second)?;
+    let right = series(alloc, 16_193, leaf(1, Kind::Res), load)?;
+    Ok(Net::new(14, 16_275, leaf(0, Kind::Src), right, Outlet::Load(5))?)
+}
+
+fn telephone_band(alloc: Global) -> Result<Net, Fail> {
+    let low = series(alloc, 16_313, leaf(1, Kind::Ind), leaf(2, Kind::Cap))?;
+    let high = parallel(alloc, 71, leaf(3, Kind::Ind), leaf(4, Kind::Cap))?;
+    let load = parallel(alloc, 14_336, high, leaf(5, Kind::Res))?;
+    let right = series(alloc, 16_097, low, load)?;
+    Ok(Net::new(14, 14_369, leaf(0, Kind::Src), right, Outlet::Load(5))?)
+}
+
+// The two branches of a lattice.
+fn lattice_a(alloc: Global) -> Result<Net, Fail> {
+    let right = parallel(alloc, 609, leaf(1, Kind::Ind), leaf(2, Kind::Cap))?;
+    Ok(Net::new(14, 2605, leaf(0, Kind::Src), right, Outlet::Source)?)
+}
+
+fn lattice_b() -> Result<Net, Fail> {
+    Ok(Net::new(
+        14,
+        2689,
+        leaf(0, Kind::Src),
+        leaf(1, Kind::Cap),
+        Outlet::Source,
+    )?)
 }
 
 fn two_sources(alloc: Global) -> Result<Net, Fail> {
@@ -245,6 +316,9 @@ fn networks_have_the_certificates_of_another_program(rt: HostRuntime) -> Result<
     certifies(&rt, alloc, &rc_low_pass(alloc)?, RC_LOW_PASS)?;
     certifies(&rt, alloc, &hum_notch(alloc)?, HUM_NOTCH)?;
     certifies(&rt, alloc, &crossover_woofer(alloc)?, CROSSOVER_WOOFER)?;
+    certifies(&rt, alloc, &crossover_tweeter(alloc)?, CROSSOVER_TWEETER)?;
+    certifies(&rt, alloc, &phono_equaliser(alloc)?, PHONO_EQUALISER)?;
+    certifies(&rt, alloc, &telephone_band(alloc)?, TELEPHONE_BAND)?;
     certifies(&rt, alloc, &two_sources(alloc)?, TWO_SOURCES)?;
     certifies(&rt, alloc, &butterworth_ladder(alloc)?, BUTTERWORTH_LADDER)?;
     certifies(&rt, alloc, &ladder_low_pass(alloc)?, LADDER_LOW_PASS)?;
@@ -359,9 +433,24 @@ fn a_state_that_nothing_sees_is_told(rt: HostRuntime) -> Result<(), Fail> {
     Ok(())
 }
 
+// The certificates made for the branches of a lattice have this text together.
+fn branches_certify(rt: &impl Abort, alloc: Global) -> Result<(), Fail> {
+    let Ok(first) = make(alloc, &lattice_a(alloc)?) else {
+        panic!(rt; "no certificate of branch A");
+    };
+    let Ok(second) = make(alloc, &lattice_b()?) else {
+        panic!(rt; "no certificate of branch B");
+    };
+    let mut text = write(alloc, &first)?;
+    text.extend_from_slice(&write(alloc, &second)?)?;
+    assert_eq!(rt; text.as_slice(), BUTTERWORTH_LATTICE);
+    Ok(())
+}
+
 #[test]
 fn texts_are_read_or_refused(rt: HostRuntime) -> Result<(), Fail> {
     let alloc = rt.alloc();
+    branches_certify(&rt, alloc)?;
     let both = read(alloc, BUTTERWORTH_LATTICE)?;
     let mut text = write(alloc, &both.first)?;
     if let Some(second) = &both.second {
@@ -374,5 +463,33 @@ fn texts_are_read_or_refused(rt: HostRuntime) -> Result<(), Fail> {
             Err(fault) => assert_eq!(rt; fault, *want, "{text:?}"),
         }
     }
+    Ok(())
+}
+
+// A ladder of 32 inductors in its line and 32 capacitors across it: 64 states.
+fn long_ladder(alloc: Global) -> Result<Net, Fail> {
+    let mut right = leaf(65, Kind::Res);
+    for i in 0..32u32 {
+        right = series(alloc, 3000 + 97 * i, leaf(2 * i + 1, Kind::Ind), right)?;
+        right = parallel(alloc, 2000 + 101 * i, leaf(2 * i + 2, Kind::Cap), right)?;
+    }
+    Ok(Net::new(14, 4422, leaf(0, Kind::Src), right, Outlet::Source)?)
+}
+
+// Its certificate has the first 64 rows; another program gave two entries of their inverse.
+#[test]
+fn sixty_four_states_are_certified(rt: HostRuntime) -> Result<(), Fail> {
+    let alloc = rt.alloc();
+    let net = long_ladder(alloc)?;
+    let Ok(cert) = make(alloc, &net) else {
+        panic!(&rt; "no certificate");
+    };
+    assert_eq!(&rt; check(alloc, &net, &cert), Ok(()));
+    assert_eq!(&rt; cert.rows().len(), 64);
+    for (i, row) in cert.rows().iter().enumerate() {
+        assert_eq!(&rt; *row as usize, i);
+    }
+    assert_eq!(&rt; cert.inverse().first(), Some(&1_369_059_393_773_079_489));
+    assert_eq!(&rt; cert.inverse().last(), Some(&226_543_752_869_511_817));
     Ok(())
 }

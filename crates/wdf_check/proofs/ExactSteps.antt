@@ -6,7 +6,7 @@ use Rattle.std.proofs.lemmas.Nat.{pow-add}
 use lib.IntN.{ℤ, pos, ◌+ℤ◌, ◌-ℤ◌, ◌*ℤ◌, neg_ℤ}
 use Rattle.wdf_algebra.specs.Truncation.{trunc}
 use Rattle.wdf_algebra.specs.JunctionValues.{series_value, series_part, parallel_value, parallel_part, root_value}
-use Rattle.wdf_algebra.proofs.Polynomials.{con, var, neg, ◌⊕◌, ◌⊖◌, ◌⊗◌}
+use Rattle.wdf_algebra.proofs.Polynomials.{Ex, con, var, neg, ◌⊕◌, ◌⊖◌, ◌⊗◌}
 use Rattle.wdf_algebra.proofs.Congruences.{congruence}
 use Rattle.wdf_law.specs.declared.kind.Kind.TheVariants.{Res, Cap, Ind, Src}
 use Rattle.wdf_law.specs.Trees.{AdaptorTree, leaf, series, parallel, LeafElement, elements_of}
@@ -53,23 +53,51 @@ agree-second x y l r h i e = h i (list_any-append (reacts i) (elements_of l) (el
 
 -- ---- one junction: u1, u2 and d are the waves before truncation, v1, v2 and e those of the residue step
 
+-- the variables of a junction's equations, in the order of their values below; what an equation has not is 0
+abbrev Q : Ex
+Q = var 0
+
+abbrev H : Ex
+H = var 1
+
+abbrev M : Ex
+M = var 2
+
+abbrev N : Ex
+N = var 3
+
+abbrev U1 : Ex
+U1 = var 4
+
+abbrev U2 : Ex
+U2 = var 5
+
+abbrev D : Ex
+D = var 6
+
+abbrev U : Ex
+U = var 7
+
+abbrev V1 : Ex
+V1 = var 8
+
+abbrev V2 : Ex
+V2 = var 9
+
+abbrev E : Ex
+E = var 10
+
+abbrev V : Ex
+V = var 11
+
+abbrev T : Ex
+T = var 12
+
 share-exact : (q : ℕ) (h : ℤ) (m : ℕ) (u1 u2 d u v1 v2 e v t : ℤ) → IsUnitInverse q h → pos q *ℤ t ≡ series_part q m u1 u2 d u
     → residue u1 ≡ residue v1 → residue u2 ≡ residue v2 → residue d ≡ residue e → residue u ≡ residue v
     → residue t ≡ residue (series_share h m v1 v2 e v)
 share-exact q h m u1 u2 d u v1 v2 e v t inverse exact s1 s2 sd su =
-    let Q = var 0 in
-    let H = var 1 in
-    let M = var 2 in
-    let U1 = var 3 in
-    let U2 = var 4 in
-    let D = var 5 in
-    let U = var 6 in
-    let V1 = var 7 in
-    let V2 = var 8 in
-    let E = var 9 in
-    let V = var 10 in
-    let T = var 11 in
-    congruence prime (pos q ∷ h ∷ pos m ∷ u1 ∷ u2 ∷ d ∷ u ∷ v1 ∷ v2 ∷ e ∷ v ∷ t ∷ [])
+    congruence prime (pos q ∷ h ∷ pos m ∷ pos 0 ∷ u1 ∷ u2 ∷ d ∷ u ∷ v1 ∷ v2 ∷ e ∷ v ∷ t ∷ [])
     T (V ⊕ M ⊗ (E ⊖ V1 ⊖ V2) ⊗ H)
     (record { by = H; left = Q ⊗ T; right = Q ⊗ U ⊕ M ⊗ (D ⊖ (U1 ⊕ U2)) }
     ∷ record { by = U ⊖ T; left = Q ⊗ H; right = con (pos 1) }
@@ -83,14 +111,7 @@ share-exact q h m u1 u2 d u v1 v2 e v t inverse exact s1 s2 sd su =
 sum-exact : (q : ℕ) (h u1 u2 v1 v2 t : ℤ) → IsUnitInverse q h → pos q *ℤ t ≡ series_value q u1 u2 → residue u1 ≡ residue v1 → residue u2 ≡ residue v2
     → residue t ≡ residue (v1 +ℤ v2)
 sum-exact q h u1 u2 v1 v2 t inverse exact s1 s2 =
-    let Q = var 0 in
-    let H = var 1 in
-    let U1 = var 2 in
-    let U2 = var 3 in
-    let V1 = var 4 in
-    let V2 = var 5 in
-    let T = var 6 in
-    congruence prime (pos q ∷ h ∷ u1 ∷ u2 ∷ v1 ∷ v2 ∷ t ∷ []) T (V1 ⊕ V2)
+    congruence prime (pos q ∷ h ∷ pos 0 ∷ pos 0 ∷ u1 ∷ u2 ∷ pos 0 ∷ pos 0 ∷ v1 ∷ v2 ∷ pos 0 ∷ pos 0 ∷ t ∷ []) T (V1 ⊕ V2)
     (record { by = H; left = Q ⊗ T; right = Q ⊗ (U1 ⊕ U2) }
     ∷ record { by = U1 ⊕ U2 ⊖ T; left = Q ⊗ H; right = con (pos 1) }
     ∷ record { by = con (pos 1); left = U1; right = V1 }
@@ -101,16 +122,7 @@ sum-exact q h u1 u2 v1 v2 t inverse exact s1 s2 =
 mean-exact : (q : ℕ) (h : ℤ) (m : ℕ) (u1 u2 v1 v2 t : ℤ) → IsUnitInverse q h → pos q *ℤ t ≡ parallel_value m (q - m) u1 u2 → residue u1 ≡ residue v1 → residue u2 ≡ residue v2
     → residue t ≡ residue (mean q h m v1 v2)
 mean-exact q h m u1 u2 v1 v2 t inverse exact s1 s2 =
-    let Q = var 0 in
-    let H = var 1 in
-    let M = var 2 in
-    let N = var 3 in
-    let U1 = var 4 in
-    let U2 = var 5 in
-    let V1 = var 6 in
-    let V2 = var 7 in
-    let T = var 8 in
-    congruence prime (pos q ∷ h ∷ pos m ∷ pos (q - m) ∷ u1 ∷ u2 ∷ v1 ∷ v2 ∷ t ∷ []) T ((M ⊗ V1 ⊕ N ⊗ V2) ⊗ H)
+    congruence prime (pos q ∷ h ∷ pos m ∷ pos (q - m) ∷ u1 ∷ u2 ∷ pos 0 ∷ pos 0 ∷ v1 ∷ v2 ∷ pos 0 ∷ pos 0 ∷ t ∷ []) T ((M ⊗ V1 ⊕ N ⊗ V2) ⊗ H)
     (record { by = H; left = Q ⊗ T; right = M ⊗ U1 ⊕ N ⊗ U2 }
     ∷ record { by = con (pos 0) ⊖ T; left = Q ⊗ H; right = con (pos 1) }
     ∷ record { by = H ⊗ M; left = U1; right = V1 }
@@ -122,19 +134,6 @@ part-exact : (q : ℕ) (h : ℤ) (m : ℕ) (u1 u2 d u v1 v2 e v t : ℤ) → IsU
     → residue u1 ≡ residue v1 → residue u2 ≡ residue v2 → residue d ≡ residue e → residue u ≡ residue v
     → residue t ≡ residue (e +ℤ mean q h m v1 v2 -ℤ v)
 part-exact q h m u1 u2 d u v1 v2 e v t inverse exact s1 s2 sd su =
-    let Q = var 0 in
-    let H = var 1 in
-    let M = var 2 in
-    let N = var 3 in
-    let U1 = var 4 in
-    let U2 = var 5 in
-    let D = var 6 in
-    let U = var 7 in
-    let V1 = var 8 in
-    let V2 = var 9 in
-    let E = var 10 in
-    let V = var 11 in
-    let T = var 12 in
     congruence prime (pos q ∷ h ∷ pos m ∷ pos (q - m) ∷ u1 ∷ u2 ∷ d ∷ u ∷ v1 ∷ v2 ∷ e ∷ v ∷ t ∷ [])
     T (E ⊕ (M ⊗ V1 ⊕ N ⊗ V2) ⊗ H ⊖ V)
     (record { by = H; left = Q ⊗ T; right = Q ⊗ D ⊕ (M ⊗ U1 ⊕ N ⊗ U2) ⊖ Q ⊗ U }
@@ -150,19 +149,8 @@ root-exact : (q : ℕ) (h : ℤ) (m : ℕ) (u1 u2 u v1 v2 v t : ℤ) → IsUnitI
     → residue u1 ≡ residue v1 → residue u2 ≡ residue v2 → residue u ≡ residue v
     → residue t ≡ residue (pos 2 *ℤ mean q h m v1 v2 -ℤ v)
 root-exact q h m u1 u2 u v1 v2 v t inverse exact s1 s2 su =
-    let Q = var 0 in
-    let H = var 1 in
-    let M = var 2 in
-    let N = var 3 in
-    let U1 = var 4 in
-    let U2 = var 5 in
-    let U = var 6 in
-    let V1 = var 7 in
-    let V2 = var 8 in
-    let V = var 9 in
-    let T = var 10 in
     let two = con (pos 2) in
-    congruence prime (pos q ∷ h ∷ pos m ∷ pos (q - m) ∷ u1 ∷ u2 ∷ u ∷ v1 ∷ v2 ∷ v ∷ t ∷ [])
+    congruence prime (pos q ∷ h ∷ pos m ∷ pos (q - m) ∷ u1 ∷ u2 ∷ pos 0 ∷ u ∷ v1 ∷ v2 ∷ pos 0 ∷ v ∷ t ∷ [])
     T (two ⊗ ((M ⊗ V1 ⊕ N ⊗ V2) ⊗ H) ⊖ V)
     (record { by = H; left = Q ⊗ T; right = two ⊗ (M ⊗ U1 ⊕ N ⊗ U2) ⊖ Q ⊗ U }
     ∷ record { by = con (pos 0) ⊖ T ⊖ U; left = Q ⊗ H; right = con (pos 1) }

@@ -52,27 +52,27 @@ share-join h m c a1 a2 d1 v1 b1 b2 d2 v2 =
     let C = var 2 in
     let A1 = var 3 in
     let A2 = var 4 in
-    let D1 = var 5 in
+    let Down1 = var 5 in
     let V1 = var 6 in
     let B1 = var 7 in
     let B2 = var 8 in
-    let D2 = var 9 in
+    let Down2 = var 9 in
     let V2 = var 10 in
     ring (pos m ∷ h ∷ c ∷ a1 ∷ a2 ∷ d1 ∷ v1 ∷ b1 ∷ b2 ∷ d2 ∷ v2 ∷ [])
-    ((C ⊗ V1 ⊕ V2) ⊕ M ⊗ ((C ⊗ D1 ⊕ D2) ⊖ (C ⊗ A1 ⊕ B1) ⊖ (C ⊗ A2 ⊕ B2)) ⊗ H)
-    (C ⊗ (V1 ⊕ M ⊗ (D1 ⊖ A1 ⊖ A2) ⊗ H) ⊕ (V2 ⊕ M ⊗ (D2 ⊖ B1 ⊖ B2) ⊗ H)) refl
+    ((C ⊗ V1 ⊕ V2) ⊕ M ⊗ ((C ⊗ Down1 ⊕ Down2) ⊖ (C ⊗ A1 ⊕ B1) ⊖ (C ⊗ A2 ⊕ B2)) ⊗ H)
+    (C ⊗ (V1 ⊕ M ⊗ (Down1 ⊖ A1 ⊖ A2) ⊗ H) ⊕ (V2 ⊕ M ⊗ (Down2 ⊖ B1 ⊖ B2) ⊗ H)) refl
 
 part-join : (c d1 u1 v1 d2 u2 v2 : ℤ) → join c d1 d2 +ℤ join c u1 u2 -ℤ join c v1 v2 ≡ join c (d1 +ℤ u1 -ℤ v1) (d2 +ℤ u2 -ℤ v2)
 part-join c d1 u1 v1 d2 u2 v2 =
     let C = var 0 in
-    let D1 = var 1 in
+    let Down1 = var 1 in
     let U1 = var 2 in
     let V1 = var 3 in
-    let D2 = var 4 in
+    let Down2 = var 4 in
     let U2 = var 5 in
     let V2 = var 6 in
     ring (c ∷ d1 ∷ u1 ∷ v1 ∷ d2 ∷ u2 ∷ v2 ∷ [])
-    ((C ⊗ D1 ⊕ D2) ⊕ (C ⊗ U1 ⊕ U2) ⊖ (C ⊗ V1 ⊕ V2)) (C ⊗ (D1 ⊕ U1 ⊖ V1) ⊕ (D2 ⊕ U2 ⊖ V2)) refl
+    ((C ⊗ Down1 ⊕ Down2) ⊕ (C ⊗ U1 ⊕ U2) ⊖ (C ⊗ V1 ⊕ V2)) (C ⊗ (Down1 ⊕ U1 ⊖ V1) ⊕ (Down2 ⊕ U2 ⊖ V2)) refl
 
 root-join : (c u1 v1 u2 v2 : ℤ) → pos 2 *ℤ join c u1 u2 -ℤ join c v1 v2 ≡ join c (pos 2 *ℤ u1 -ℤ v1) (pos 2 *ℤ u2 -ℤ v2)
 root-join c u1 v1 u2 v2 =

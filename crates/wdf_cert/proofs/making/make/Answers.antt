@@ -1,9 +1,7 @@
-use Rattle.std.proofs.Common.{◌≡◌, ◌<◌, ◌≤◌, ◌*◌, length, sym, subst, ap, arith}
-use Rattle.wdf_residue.specs.declared.elimination.Elimination.{Elimination}
+use Rattle.std.proofs.Common.{◌<◌, ◌≤◌, ◌*◌, length, sym, subst, arith}
 use Rattle.wdf_residue.specs.declared.elimination.Elimination.TheVariants.{Kernel}
 use Rattle.wdf_residue.specs.Matrix.{Entries}
 use Rattle.wdf_residue.specs.Elimination.{Eliminates}
-use Rattle.wdf_check.specs.Observability.{observability}
 use Rattle.wdf_cert.proofs.Sizes.{columns-le, rows-le}
 use Rattle.wdf_cert.proofs.making.make.Goals as goal
 

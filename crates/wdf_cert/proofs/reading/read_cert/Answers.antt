@@ -1,8 +1,7 @@
-use Rattle.std.proofs.Common.{◌≡◌, ℕ, ◌-◌, ◌^◌, List, length, sym, ap, ◌∙◌, subst, rules}
+use Rattle.std.proofs.Common.{◌≡◌, ℕ, length, sym, ◌∙◌, subst, rules}
 use Rattle.std.specs.Prelude.{IfSome}
 use Rattle.std.proofs.lemmas.Result.{err_from_is_err_and}
 use Rattle.wdf_check.specs.Certificate.{Certificate}
-use Rattle.wdf_cert.specs.declared.cert_text_fault.CertTextFault.{CertTextFault}
 use Rattle.wdf_cert.specs.CertFormat.{inverse_format}
 use Rattle.wdf_cert.specs.Scanning.{Fails, plain_part, ReadsInverse, ReadsCert}
 use Rattle.wdf_cert.proofs.CertReading.{cert_fails_multipliers, cert_fails_rows, cert_fails_inverse, cert_reads}

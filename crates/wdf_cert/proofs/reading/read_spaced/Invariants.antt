@@ -1,4 +1,4 @@
-use Rattle.std.proofs.Common.{◌≡◌, ℕ, ◌-◌, ◌≤◌, List, length, drop}
+use Rattle.std.proofs.Common.{◌≡◌, ℕ, ◌-◌, ◌≤◌, length, drop}
 use Rattle.std.specs.Prelude.{All}
 use Rattle.wdf_cert.specs.declared.cert_text_fault.CertTextFault.{CertTextFault}
 use Rattle.wdf_cert.specs.Format.{Format, HasFault}

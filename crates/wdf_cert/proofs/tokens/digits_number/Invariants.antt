@@ -1,4 +1,4 @@
-use Rattle.std.proofs.Common.{◌≡◌, ◌≤◌, ◌<◌, ◌^◌, length, take}
+use Rattle.std.proofs.Common.{◌≡◌, ◌<◌, ◌^◌, take}
 use Rattle.wdf_text.specs.Numbers.{number_of}
 use Rattle.wdf_cert.proofs.tokens.digits_number.Given as goal
 

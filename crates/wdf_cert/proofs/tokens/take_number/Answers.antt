@@ -1,4 +1,4 @@
-use Rattle.std.proofs.Common.{◌≡◌, ◌<◌, inl, inr, arith}
+use Rattle.std.proofs.Common.{◌<◌, inl, inr, arith}
 use mathlib.Core.Logic.{◌⊎◌}
 use Rattle.wdf_cert.proofs.TakenTokens.{number_taken, number_out, number_missed}
 use Rattle.wdf_cert.proofs.tokens.take_number.Goals as goal
