@@ -1,5 +1,5 @@
 -- A circuit of the netlist as the reduction sees it.
-use Rattle.std.proofs.Common.{◌≡◌, ◌≢◌, ℕ, ◌+◌, ◌<◌, List, length, Option, None, Some, Result, Ok, Err, refl, ap, sym, ◌∙◌, subst}
+use Rattle.std.proofs.Common.{◌≡◌, ◌≢◌, ℕ, ◌+◌, ◌<◌, List, length, Option, None, Some, Result, Ok, Err, refl, ap, sym, ◌∙◌, subst, arith}
 use Rattle.std.specs.Prelude.{slice_get, IfOk}
 use Rattle.std.specs.Option.{option_map}
 use Rattle.std.proofs.lemmas.List.{length-map}
@@ -10,12 +10,13 @@ use Rattle.wdf_law.specs.Spans.{Branch}
 use Rattle.wdf_netlist.specs.declared.element.Element.{Element}
 use Rattle.wdf_netlist.specs.Circuits.{CircuitValue, IsCircuit, IsSourceAt, sources}
 use Rattle.wdf_sp.specs.declared.sp_fault.SpFault.{SpFault}
-use Rattle.wdf_sp.specs.Decomposition.{Decomposes}
+use Rattle.wdf_sp.specs.declared.sp_fault.SpFault.TheVariants.{Core, NoMemory}
+use Rattle.wdf_sp.specs.Decomposition.{Decomposes, NamesBelow}
 use Rattle.wdf_sp.specs.Edges.{branch, branches}
 use Rattle.wdf_netlist.specs.Circuits.{first_source}
 use Rattle.wdf_sp.specs.Structure.{IsDriven, SpansCircuit}
 use Rattle.wdf_sp.specs.Reduction.{branch_at}
-use Rattle.wdf_sp.proofs.ReductionLemmas.{shape_spans, depth-leaves}
+use Rattle.wdf_sp.proofs.ReductionLemmas.{shape_spans, naming_within, depth-leaves}
 
 -- an element of the list of branches is one of the circuit
 record IsBranchOf (es : List Element) (i : ℕ) (b : Branch) : Type 0 where
@@ -45,6 +46,7 @@ pub record IsDecomposed (c : CircuitValue) (source : ℕ) (r : Result Shape SpFa
   pub spans : IfOk r (λ (s : Shape). SpansCircuit (branches c.elements) source (outline s))
   pub leaves : IfOk r (λ (s : Shape). length (outline_elements (outline s)) + 1 ≡ length c.elements)
   pub depth : IfOk r (λ (s : Shape). outline_depth (outline s) < length (outline_elements (outline s)))
+  pub named : NamesBelow (length c.elements) r
 
 pub decomposed : (c : CircuitValue) (source : ℕ) (r : Result Shape SpFault) → IsCircuit c → IsSourceAt c.elements source → Decomposes (branches c.elements) source r → IsDecomposed c source r
 decomposed c source (Ok s) rules at h =
@@ -54,8 +56,13 @@ decomposed c source (Ok s) rules at h =
       spans = ((branch_at bs source).from, (branch_at bs source).to, whole.spans);
       leaves = whole.count ∙ length-map c.elements branch;
       depth = depth-leaves (outline s);
+      named = tt;
     }
-decomposed c source (Err e) rules at h = record { spans = tt; leaves = tt; depth = tt }
+decomposed c source (Err NoMemory) rules at h = record { spans = tt; leaves = tt; depth = tt; named = tt }
+decomposed c source (Err (Core element core)) rules at h =
+    let bs = branches c.elements in
+    let within = naming_within bs source (branch_at bs source).from (branch_at bs source).to (driven c source rules at) in
+    record { spans = tt; leaves = tt; depth = tt; named = omega (arith, h.2, within, length-map c.elements branch) }
 
 -- the source is the first one
 pub decomposed_first : (c : CircuitValue) (es : List Element) (source : ℕ) (r : Result Shape SpFault) → IsCircuit c → IsSourceAt c.elements source → slice_get (sources c.elements) 0 ≡ Some source

@@ -1,19 +1,20 @@
 -- The reduction keeps that every edge spans, and ends; so the shape that it accepts spans the circuit.
 use Rattle.std.proofs.Common.{◌≡◌, ◌≢◌, ℕ, zero, suc, ◌+◌, ◌<◌, ◌≤◌, Bool, true, false, cond, if◌then◌else◌, ◌&&◌, eqb, List, [], ◌∷◌, length, Option, None, Some, ◌⊎◌, inl, inr, ⊎_elim, refl, ap, sym, ◌∙◌, subst, arith, length-append}
-use Rattle.std.specs.Prelude.{slice_get, unwrap_or}
-use Rattle.std.specs.List.{sum_by, All}
+use Rattle.std.specs.Prelude.{slice_get, unwrap_or, IfSome}
+use Rattle.std.specs.List.{sum_by, All, find}
 use Rattle.std.specs.Option.{option_map}
-use Rattle.std.proofs.lemmas.Bool.{cases_Bool, eqb-true, eqb-false, and_parts, cond-true, cond-false}
+use Rattle.std.proofs.lemmas.Bool.{cases_Bool, cond_both, eqb-true, eqb-false, and_parts, cond-true, cond-false}
 use Rattle.std.proofs.lemmas.Option.{none-some, same_Some, slice_get-get_or, slice_get_within, get_or_from_slice_get}
-use Rattle.std.proofs.lemmas.List.Elements.{All-nil, All-cons, All-head}
+use Rattle.std.proofs.lemmas.List.Elements.{All-nil, All-cons, All-head, All-tail}
 use Rattle.std.proofs.lemmas.List.Sums.{sum_by-cons}
+use Rattle.wdf_law.specs.declared.connection.Connection.TheVariants.{Series, Parallel}
 use Rattle.wdf_law.specs.declared.kind.Kind.{Kind}
 use Rattle.wdf_law.specs.declared.kind.Kind.TheVariants.{Src}
-use Rattle.wdf_law.specs.Outline.{Outline, single, joined, outline_elements, outline_depth, times}
+use Rattle.wdf_law.specs.Outline.{Outline, single, joined, outline_elements, outline_depth, outline_first, times}
 use Rattle.wdf_law.specs.Reversal.{reversed}
 use Rattle.wdf_law.specs.Spans.{Branch, Touches, Spans}
 use Rattle.wdf_sp.specs.declared.merge.Merge.{Merge}
-use Rattle.wdf_sp.specs.Reduction.{Arc, next_merge, after_merge, next, reduced, fully_reduced, branch_at, leaf_arc, edges_from, reduction, accepted, shape_in}
+use Rattle.wdf_sp.specs.Reduction.{Arc, next_merge, after_merge, next, reduced, fully_reduced, branch_at, leaf_arc, edges_from, reduction, accepted, shape_in, arc_at, hangs, naming_element}
 use Rattle.wdf_sp.specs.Structure.{IsDriven, IsShapeOf}
 use Rattle.wdf_sp.proofs.SpanLemmas.{reversed_spans, times-reversed}
 use Rattle.wdf_sp.proofs.ListLemmas.{length-merged}
@@ -283,25 +284,12 @@ pub record IsWholeShape (bs : List Branch) (source : ℕ) (t : Outline) : Type 0
   pub spans : IsShapeOf bs source t (branch_at bs source).from (branch_at bs source).to
   pub count : length (outline_elements t) + 1 ≡ length bs
 
-pub shape_spans : (bs : List Branch) (source : ℕ) (t : Outline) → IsDriven bs source → shape_in bs source ≡ Some t → IsWholeShape bs source t
+-- every edge where its reduction ends stands in the circuit
+reduction_stands : (bs : List Branch) (source : ℕ) → IsDriven bs source → AllStand (slice_get bs) (held source 0 bs) (held_leaves source 0 bs) (reduction bs source)
 unfolding held held_leaves
-shape_spans bs source t h e =
-    let b = source_branch bs source h in
-    let p = (branch_at bs source).from in
-    let q = (branch_at bs source).to in
-    let first = edges_from source 0 bs in
-    let whole = accepted_spans (slice_get bs) (held source 0 bs) (held_leaves source 0 bs) p q (reduction bs source) t
-    (reduced_keeps (slice_get bs) p q (held source 0 bs) (held_leaves source 0 bs) (covers b) (length first) first start) e in
-    record {
-      spans = record {
-        ends = b.ends;
-        source_at = b.at ∙ (λ i. Some (record { kind = b.kind i; from = (branch_at bs source).from; to = (branch_at bs source).to }));
-        spans = whole.spans;
-        source_apart = whole.total source ∙ (is_held source 0 bs source).none refl;
-        others = λ i within apart. omega (arith, whole.total i, (is_held source 0 bs i).some (omega arith) (omega arith) apart);
-      };
-      count = omega (arith, whole.count, (are_counted source 0 bs).within (omega arith) (omega (arith, b.inside)));
-    }
+reduction_stands bs source h =
+    reduced_keeps (slice_get bs) (branch_at bs source).from (branch_at bs source).to (held source 0 bs) (held_leaves source 0 bs) (covers (source_branch bs source h))
+    (length (edges_from source 0 bs)) (edges_from source 0 bs) start
   where
     start : AllStand (slice_get bs) (held source 0 bs) (held_leaves source 0 bs) (edges_from source 0 bs)
     start = record {
@@ -323,6 +311,50 @@ shape_spans bs source t h e =
         outside : (c : Branch) (x : ℕ) → Touches c x → x ≢ (branch_at bs source).from → x ≢ (branch_at bs source).to → branch_at bs source ≡ c → ⊥
         outside c x (inl k) not_first not_last same = not_first (sym (ap (λ (y : Branch). y.from) same ∙ k))
         outside c x (inr k) not_first not_last same = not_last (sym (ap (λ (y : Branch). y.to) same ∙ k))
+
+pub shape_spans : (bs : List Branch) (source : ℕ) (t : Outline) → IsDriven bs source → shape_in bs source ≡ Some t → IsWholeShape bs source t
+unfolding held held_leaves
+shape_spans bs source t h e =
+    let b = source_branch bs source h in
+    let whole = accepted_spans (slice_get bs) (held source 0 bs) (held_leaves source 0 bs) (branch_at bs source).from (branch_at bs source).to (reduction bs source) t (reduction_stands bs source h) e in
+    record {
+      spans = record {
+        ends = b.ends;
+        source_at = b.at ∙ (λ i. Some (record { kind = b.kind i; from = (branch_at bs source).from; to = (branch_at bs source).to }));
+        spans = whole.spans;
+        source_apart = whole.total source ∙ (is_held source 0 bs source).none refl;
+        others = λ i within apart. omega (arith, whole.total i, (is_held source 0 bs i).some (omega arith) (omega arith) apart);
+      };
+      count = omega (arith, whole.count, (are_counted source 0 bs).within (omega arith) (omega (arith, b.inside)));
+    }
+
+-- ---- the element that names a core
+
+first_within : (bs : List Branch) (t : Outline) (p q : ℕ) → Spans (slice_get bs) t p q → outline_first t < length bs
+first_within bs (single i k f) p q h = slice_get_within bs i _ h
+first_within bs (joined Series l r) p q h = first_within bs l p h.0 h.1
+first_within bs (joined Parallel l r) p q h = first_within bs l p q h.0
+
+abbrev IsNamedWithin : List Branch → Arc → Type 0
+IsNamedWithin bs a = outline_first a.shape < length bs
+
+found_within : (bs : List Branch) (test : Arc → Bool) (es : List Arc) → All (Stands (slice_get bs)) es → IfSome (find test es) (IsNamedWithin bs)
+found_within bs test [] all = tt
+found_within bs test (a ∷ es) all =
+    let stands = All-head (Stands (slice_get bs)) a es all in
+    cond_both (test a) (Some a) (find test es) (λ (o : Option Arc). IfSome o (IsNamedWithin bs))
+    (λ _. first_within bs a.shape a.from a.to stands.spans)
+    (λ _. found_within bs test es (All-tail (Stands (slice_get bs)) a es all))
+
+pub naming_within : (bs : List Branch) (source p q : ℕ) → IsDriven bs source → naming_element p q (reduction bs source) < length bs
+naming_within bs source p q h =
+    let all = (reduction_stands bs source h).stand in
+    by (find (hangs p q (reduction bs source)) (reduction bs source)) (found_within bs (hangs p q (reduction bs source)) (reduction bs source) all) (reduction bs source) all
+  where
+    by : (o : Option Arc) → IfSome o (IsNamedWithin bs) → (es : List Arc) → All (Stands (slice_get bs)) es → outline_first (unwrap_or o (arc_at es 0)).shape < length bs
+    by (Some a) found es all = found
+    by None found [] all = let inside = (source_branch bs source h).inside in omega arith
+    by None found (a ∷ es) all = let stands = All-head (Stands (slice_get bs)) a es all in first_within bs a.shape a.from a.to stands.spans
 
 -- ---- depth
 

@@ -1,7 +1,7 @@
 ghost use Rattle.std.specs.Prelude.{◌≡◌, ◌+◌, ◌<◌, ◌≤◌, IfOk, OnOk, length, vec_len};
 ghost use Rattle.wdf_law.specs.Outline.{outline, outline_depth, outline_elements};
 ghost use Rattle.wdf_netlist.specs.declared.TheConstants.{MAX_ELEMENTS};
-ghost use Rattle.wdf_sp.specs.Decomposition.{Accepts, Decomposes};
+ghost use Rattle.wdf_sp.specs.Decomposition.{Accepts, Decomposes, NamesBelow};
 ghost use Rattle.wdf_sp.specs.Edges.{arc, arcs, branch, branches};
 ghost use Rattle.wdf_netlist.specs.Circuits.{first_source};
 ghost use Rattle.wdf_sp.specs.Reduction.{after_merge, edges_from, fully_reduced, joined_at, leaf_arc, naming_element};
@@ -196,6 +196,9 @@ pub fn decompose(alloc: Global, circuit: &Circuit) -> Result<Shape, SpFault>
     ensures spans { IfOk result (λ shape. SpansCircuit (branches circuit.now.elements) (first_source circuit.now.elements) (outline shape)) }
     ensures leaves { IfOk result (λ shape. length (outline_elements (outline shape)) + 1 ≡ length circuit.now.elements) }
     ensures depth { IfOk result (λ shape. outline_depth (outline shape) < length (outline_elements (outline shape))) }
+
+    // The element that names a core is there.
+    ensures named { NamesBelow (length circuit.now.elements) result }
 {
     circuit.rules();
     decompose_elements(alloc, circuit.elements(), circuit.source())
