@@ -39,3 +39,9 @@ GivesPorts p (Err NoMemory) = Unit {0}
 abbrev pub AreBelow : ℕ → Outline → Type 0
 AreBelow count (single elem _ _) = elem < count
 AreBelow count (joined c l r) = AreBelow count l × AreBelow count r
+
+-- a ratio that is out of range is told of an element with a number below the count
+abbrev pub NamesBelow : {A : Type 0} → ℕ → Result A PortFault → Type 0
+NamesBelow count (Ok _) = Unit {0}
+NamesBelow count (Err (Range element low)) = element < count
+NamesBelow count (Err NoMemory) = Unit {0}

@@ -5,7 +5,7 @@ ghost use Rattle.wdf_law.specs.PortOutline.{IsRatio};
 ghost use Rattle.wdf_law.specs.Trees.{LeafElement};
 ghost use Rattle.wdf_netlist.specs.declared.TheConstants.{MAX_RATE};
 ghost use Rattle.wdf_ports.specs.PortRatio.{GivesRatio, element_ratio};
-ghost use Rattle.wdf_ports.specs.PortRatios.{AreBelow, GivesPorts, ports_with};
+ghost use Rattle.wdf_ports.specs.PortRatios.{AreBelow, GivesPorts, NamesBelow, ports_with};
 
 use crate::{PortFault, leaf_ratio};
 use std::alloc::Global;
@@ -81,7 +81,7 @@ fn ports(alloc: Global, rate: u32, circuit: &Circuit, shape: &Shape) -> Result<P
 /// `Range` exactly where a ratio is not in `1..=2^62`; of several the first, parts before their
 /// junction and the first part first, by its element or its junction's first leaf. `NoMemory` where
 /// no memory is left.
-#[tactic(auto, using(crate::proofs::LeafLemmas::are_below))]
+#[tactic(auto, using(crate::proofs::LeafLemmas::are_below, crate::proofs::LeafLemmas::answer_below))]
 pub fn port_tree(
     alloc: Global,
     rate: u32,
@@ -91,7 +91,8 @@ pub fn port_tree(
     requires slowest { 1 ≤ rate }
     requires fastest { rate ≤ MAX_RATE }
     requires elements { All (λ (x : LeafElement). x.number < length circuit.now.elements) (outline_elements (outline shape.now)) }
-    ensures { GivesPorts (ports_with (element_ratio rate circuit.now.elements) (outline shape.now)) result }
+    ensures ports { GivesPorts (ports_with (element_ratio rate circuit.now.elements) (outline shape.now)) result }
+    ensures element { NamesBelow (length circuit.now.elements) result }
 {
     ports(alloc, rate, circuit, shape)
 }
