@@ -1,0 +1,4 @@
+pub mod CircuitElements
+pub mod DesignLemmas
+pub mod NetworkElements
+pub mod StageLemmas

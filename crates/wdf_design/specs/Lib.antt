@@ -1,0 +1,5 @@
+pub mod DesignLaws
+pub mod Designs
+pub mod Realising
+pub mod Stages
+pub mod WorkedDesigns
