@@ -1,3 +1,4 @@
+mod CanonicalTests
 pub mod CircuitLemmas
 pub mod CuttingLemmas
 pub mod DraftLemmas
@@ -6,6 +7,7 @@ pub mod KeptLemmas
 pub mod NameLemmas
 pub mod NodeLemmas
 pub mod PlaceLemmas
+pub mod PrintLemmas
 pub mod ReadingLemmas
 pub mod SourceLemmas
 pub mod StandingLemmas

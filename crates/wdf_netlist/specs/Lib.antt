@@ -1,3 +1,4 @@
+pub mod Canonical
 pub mod Circuits
 pub mod Drafts
 pub mod Gathering

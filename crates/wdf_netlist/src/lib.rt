@@ -5,7 +5,8 @@
 //! types keep their rules: `specs/Circuits.antt` and `specs/Netlists.antt` say which.
 //!
 //! [`read`] gives the netlist that a text stands for, or what is wrong with it and where.
-//! `specs/NetlistText.antt` says what that is, and `docs/netlist.md` says it for people.
+//! `specs/NetlistText.antt` says what that is, and `docs/netlist.md` says it for people. [`print`]
+//! writes a netlist as its canonical text, which `specs/Canonical.antt` spells.
 #![tactic(auto)]
 
 mod circuit;
@@ -25,6 +26,7 @@ mod net_kind;
 mod netlist;
 mod numbering;
 mod part;
+mod printing;
 mod read_error;
 mod reading;
 mod root_choice;
@@ -41,6 +43,7 @@ pub use form::Form;
 pub use net_fault::NetFault;
 pub use net_kind::NetKind;
 pub use netlist::Netlist;
+pub use printing::print;
 pub use read_error::ReadError;
 pub use reading::read;
 pub use root_choice::RootChoice;

@@ -291,3 +291,34 @@ fn a_text_of_the_greatest_length_is_read(rt: HostRuntime) -> Result<(), Fail> {
     }
     Ok(())
 }
+
+// A text, and the canonical text of the netlist that it stands for.
+const PRINTED: [(&str, &str); 3] = [
+    (
+        "rate 50000\nsource S a 0 1\nc C a 0 10u\nr L a 0 1\nload L",
+        "rate 50000\nsource S a 0 1\nc C a 0 0.00001\nr L a 0 1\nload L\n",
+    ),
+    (
+        LOW_PASS,
+        "rate 48000\nsource V1 in 0 50\nr C1 in out 4700\nc c1 out 0 0.00000001\ninput V2 V1 0 0.5\nr RL out V1 1000000\nload RL\nroot c1\n",
+    ),
+    (
+        LATTICE,
+        "rate 44100\nlattice 600\nbranch A a b\nc C a b 0.0000001\nshallow\nbranch B b a\nl L b x 0.036\nr L2 x a 1\nroot L2\n",
+    ),
+];
+
+#[test]
+fn the_canonical_text_is_printed(rt: HostRuntime) -> Result<(), Fail> {
+    let alloc = rt.alloc();
+    for (text, want) in PRINTED {
+        match reads(&rt, alloc, text.as_bytes()) {
+            Err(error) => panic!(rt; "{error:?}"),
+            Ok(netlist) => {
+                let printed = print(alloc, &netlist)?;
+                assert_eq!(rt; printed.as_slice(), want.as_bytes(), "{text}");
+            }
+        }
+    }
+    Ok(())
+}
