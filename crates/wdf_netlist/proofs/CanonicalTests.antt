@@ -1,14 +1,12 @@
 -- The canonical text of worked netlists, computed by the definition.
-use Rattle.std.proofs.Common.{◌≡◌, ℕ, List, [], ◌∷◌, ◌++◌, refl}
+use Rattle.std.proofs.Common.{◌≡◌, [], ◌∷◌, refl}
 use Rattle.std.specs.Prelude.{codes, pos, negsuc}
 use Rattle.std.specs.Fmt.{digits}
 use Rattle.wdf_text.specs.DecimalNumber.{DecimalNumber}
-use Rattle.wdf_law.specs.declared.kind.Kind.TheVariants.{Src, Res, Ind, Cap}
+use Rattle.wdf_law.specs.declared.kind.Kind.TheVariants.{Src, Res, Cap}
 use Rattle.wdf_law.specs.declared.outlet.Outlet.TheVariants as outlets
-use Rattle.wdf_netlist.specs.declared.element.Element.{Element}
-use Rattle.wdf_netlist.specs.declared.form.Form.TheVariants.{Ladder, Lattice}
+use Rattle.wdf_netlist.specs.declared.form.Form.TheVariants.{Ladder}
 use Rattle.wdf_netlist.specs.declared.root_choice.RootChoice.TheVariants as roots
-use Rattle.wdf_netlist.specs.Circuits.{CircuitValue}
 use Rattle.wdf_netlist.specs.Netlists.{NetlistValue}
 use Rattle.wdf_netlist.specs.Canonical.{canonical, value_text}
 

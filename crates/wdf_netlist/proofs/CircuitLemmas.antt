@@ -1,11 +1,11 @@
 -- What allowed parts give is a circuit, and circuits give a netlist.
-use Rattle.std.proofs.Common.{◌≡◌, ◌≢◌, ℕ, zero, suc, ◌+◌, ◌<◌, ◌≤◌, Bool, true, false, cond, not, ◌||◌, eqb, ltb, List, [], ◌∷◌, ◌++◌, length, get_or, map, flat_map, fold, Option, Some, None, Result, Ok, Err, refl, sym, ap, ◌∙◌, subst, inl, inr, arith}
-use Rattle.std.specs.Prelude.{All, IfSome, IsTrue, bytes_eq, option_map, position, slice_get, unwrap_or}
-use Rattle.std.specs.List.{list_any, position_or_len, range_with_len}
+use Rattle.std.proofs.Common.{◌≡◌, ◌≢◌, ℕ, zero, suc, ◌+◌, ◌<◌, ◌≤◌, Bool, true, false, cond, ◌||◌, eqb, ltb, List, [], ◌∷◌, length, map, flat_map, fold, Option, Some, None, Ok, Err, refl, sym, ap, ◌∙◌, subst, arith}
+use Rattle.std.specs.Prelude.{All, IfSome, IsTrue, bytes_eq, option_map, position, slice_get}
+use Rattle.std.specs.List.{list_any, position_or_len}
 use Rattle.std.proofs.lemmas.Bool.{cond-true, cond-false, false≢true, ltb-true}
 use Rattle.std.proofs.lemmas.List.{length-map}
 use Rattle.std.proofs.lemmas.List.Sums.{sum_by-cons}
-use Rattle.std.proofs.lemmas.Option.{slice_get-map, slice_get_within, slice_get-get_or}
+use Rattle.std.proofs.lemmas.Option.{slice_get-map}
 use Rattle.wdf_text.specs.DecimalNumber.{DecimalNumber}
 use Rattle.wdf_text.specs.Names.{IsName, at_sign, is_name_or_at_sign}
 use Rattle.wdf_law.specs.Network.{is_source, is_reactance, is_resistor}
@@ -15,20 +15,19 @@ use Rattle.wdf_law.specs.declared.outlet.Outlet.{Outlet}
 use Rattle.wdf_law.specs.declared.outlet.Outlet.TheVariants as outlets
 use Rattle.wdf_netlist.specs.declared.element.Element.{Element}
 use Rattle.wdf_netlist.specs.declared.mention.Mention.{Mention}
-use Rattle.wdf_netlist.specs.declared.net_fault.NetFault.{NetFault}
 use Rattle.wdf_netlist.specs.declared.net_kind.NetKind.TheVariants as kinds
 use Rattle.wdf_netlist.specs.declared.part.Part.{Part}
 use Rattle.wdf_netlist.specs.declared.root_choice.RootChoice.{RootChoice}
 use Rattle.wdf_netlist.specs.declared.root_choice.RootChoice.TheVariants as roots
 use Rattle.wdf_netlist.specs.declared.root_line.RootLine.{RootLine}
 use Rattle.wdf_netlist.specs.declared.root_line.RootLine.TheVariants.{At, Shallow}
-use Rattle.wdf_netlist.specs.Circuits.{HasOutlet, HasRoot, IsCircuit, IsElementValue, count_kind, first_mentions, kind_at, mentions, names, sources, with_new}
+use Rattle.wdf_netlist.specs.Circuits.{HasOutlet, HasRoot, IsCircuit, IsElementValue, count_kind, first_mentions, kind_at, mentions, names, with_new}
 use Rattle.wdf_netlist.specs.Drafts.{IsAtName}
 use Rattle.wdf_netlist.specs.Kept.{AreOfForm, KeepsParts}
-use Rattle.wdf_netlist.specs.LineRules.{◌>>=◌, count_parts, has_source}
+use Rattle.wdf_netlist.specs.LineRules.{count_parts, has_source}
 use Rattle.wdf_netlist.specs.Netlists.{IsBranch, IsLadder, branch_source}
 use Rattle.wdf_netlist.specs.Statements.{branch_part, names_of}
-use Rattle.wdf_netlist.specs.TextRules.{circuit_of, fault_of_name, found, is_resistor_at, load_number, nodes_of, number_of_name, numbered, place_of, root_choice}
+use Rattle.wdf_netlist.specs.TextRules.{circuit_of, fault_of_name, is_resistor_at, load_number, nodes_of, number_of_name, numbered, place_of, root_choice}
 use Rattle.wdf_netlist.proofs.NameLemmas.{differ_bytes, same_bytes, same_name}
 use Rattle.wdf_netlist.proofs.NodeLemmas.{apart, grows, in_order, mentioned, new_added, nodes_all, nodes_distinct, placed}
 use Rattle.wdf_netlist.proofs.SourceLemmas.{numbers_are, numbers_from}

@@ -1,5 +1,5 @@
 -- What a draft holds once it has taken in one statement more.
-use Rattle.std.proofs.Common.{◌≡◌, ℕ, suc, ◌+◌, ◌≤◌, ◌≢◌, Bool, true, false, ◌&&◌, List, [], ◌∷◌, ◌++◌, map, Option, Some, None, refl, sym, ap, subst, ◌∙◌, inl, inr, arith}
+use Rattle.std.proofs.Common.{◌≡◌, ℕ, suc, ◌+◌, ◌≤◌, ◌≢◌, true, false, List, [], ◌∷◌, ◌++◌, Option, Some, None, refl, sym, ap, subst, ◌∙◌, inl, inr, arith}
 use Rattle.std.specs.List.{list_all}
 use Rattle.std.specs.Prelude.{IfSome, IsSome, IsTrue}
 use Rattle.std.proofs.lemmas.Bool.{false≢true}
@@ -9,16 +9,15 @@ use Rattle.wdf_law.specs.Network.{is_source}
 use Rattle.wdf_netlist.specs.declared.TheConstants.{MAX_RATE}
 use Rattle.wdf_netlist.specs.Circuits.{IsElementValue}
 use Rattle.wdf_netlist.specs.LineRules.{count_fault, termination}
-use Rattle.wdf_netlist.specs.Kept.{AreOfForm, IsNextPart, KeepsParts}
+use Rattle.wdf_netlist.specs.Kept.{AreOfForm, IsNextPart}
 use Rattle.wdf_netlist.proofs.KeptLemmas.{kept_more, kept_none, of_branch, of_ladder}
 use Rattle.wdf_text.specs.DecimalNumber.{DecimalNumber}
 use Rattle.wdf_netlist.specs.declared.circuit_draft.CircuitDraft.{CircuitDraft}
 use Rattle.wdf_netlist.specs.declared.draft.Draft.{Draft}
-use Rattle.wdf_netlist.specs.declared.mention.Mention.{Mention}
 use Rattle.wdf_netlist.specs.declared.part.Part.{Part}
 use Rattle.wdf_netlist.specs.declared.root_line.RootLine.{RootLine}
 use Rattle.wdf_netlist.specs.Drafts.{BelongsTo, IsAtName, IsDraftOf, IsEmptyDraft, IsFirstBranch, IsNewPart, IsPushed, IsSourceAlone, IsWholeDraft, KeepsCircuit, KeepsDraft, Reflects}
-use Rattle.wdf_netlist.specs.Statements.{Statement, branch, branch_part, branches, element, first_branch, first_said, is_branch, is_rate, last_circuit, load_said, names_of, part_said, parts_of, rate_said, root, root_said, termination_said}
+use Rattle.wdf_netlist.specs.Statements.{Statement, branch, branch_part, branches, element, first_said, is_branch, is_rate, last_circuit, load_said, names_of, part_said, rate_said, root, root_said, termination_said}
 use Rattle.wdf_netlist.proofs.NameLemmas.{and_false, and_true}
 use Rattle.wdf_netlist.proofs.StandingLemmas.{no_branches}
 use Rattle.wdf_netlist.proofs.StatementLemmas.{branches_more, branches_same, first_is_last, first_same, last_begun, last_same, parts_more, parts_same, rates_more, said_new, said_same}

@@ -1,5 +1,5 @@
 -- The rules of the whole text, over a draft of all that is said.
-use Rattle.std.proofs.Common.{◌≡◌, ℕ, ◌≤◌, Bool, true, false, eqb, Option, Some, None, refl, sym, ap, ◌∙◌, arith}
+use Rattle.std.proofs.Common.{◌≡◌, true, false, eqb, Option, Some, None, refl, sym, ap, ◌∙◌, arith}
 use Rattle.std.specs.Prelude.{IfSome, IsSome, List, is_some}
 use Rattle.std.proofs.lemmas.Bool.{eq-eqb, false≢true, ne_eqb}
 use Rattle.wdf_text.specs.DecimalNumber.{DecimalNumber}
@@ -8,8 +8,8 @@ use Rattle.wdf_netlist.specs.declared.draft.Draft.{Draft}
 use Rattle.wdf_netlist.specs.Drafts.{IsFirstBranch, IsWholeDraft, KeepsDraft, Reflects}
 use Rattle.wdf_netlist.specs.Gathering.{lattice_of}
 use Rattle.wdf_netlist.specs.LineRules.{in_lattice}
-use Rattle.wdf_netlist.specs.Statements.{Statement, branches, first_said, termination_said}
-use Rattle.wdf_netlist.specs.TextRules.{lattice_said, netlist_said}
+use Rattle.wdf_netlist.specs.Statements.{Statement, branches}
+use Rattle.wdf_netlist.specs.TextRules.{netlist_said}
 
 -- the branches of a lattice that has both
 pub whole_branches : (d : Draft) → KeepsDraft d → is_some d.termination ≡ true → IsSome d.first → (v : DecimalNumber) × (IfSome d.first (IsWholeDraft (Some v)) × IsWholeDraft (Some v) d.own)

@@ -1,19 +1,16 @@
 -- A part that may be added keeps the rules.
-use Rattle.std.proofs.Common.{◌≡◌, ◌≢◌, ℕ, zero, suc, ◌+◌, ◌<◌, ◌≤◌, Bool, true, false, cond, ◌&&◌, ◌||◌, eqb, leb, List, [], ◌∷◌, ◌++◌, length, map, Option, Some, None, refl, sym, ap, ◌∙◌, ◌⊎◌, inl, inr, arith, length-append}
-use Rattle.std.specs.Prelude.{All, IsTrue, bytes_eq, slice_get}
-use Rattle.std.specs.List.{list_any}
-use Rattle.std.proofs.lemmas.Bool.{cond-true, cond-false, false≢true, eq-eqb, leb-false}
+use Rattle.std.proofs.Common.{◌≡◌, ◌≢◌, ℕ, zero, suc, ◌+◌, ◌≤◌, Bool, true, false, cond, ◌&&◌, leb, List, [], ◌∷◌, ◌++◌, length, Some, None, refl, sym, ap, ◌∙◌, ◌⊎◌, inl, inr, arith, length-append}
+use Rattle.std.specs.Prelude.{IsTrue, bytes_eq, slice_get}
+use Rattle.std.proofs.lemmas.Bool.{cond-true, cond-false, false≢true, leb-false}
 use Rattle.std.proofs.lemmas.List.{map-append}
 use Rattle.std.proofs.lemmas.List.Elements.{All-push}
 use Rattle.std.proofs.lemmas.List.Sums.{sum_by_push}
-use Rattle.std.proofs.lemmas.Option.{slice_get_within}
 use Rattle.wdf_text.specs.DecimalNumber.{DecimalNumber}
 use Rattle.wdf_text.specs.Names.{IsName, is_name_or_at_sign}
 use Rattle.wdf_law.specs.Network.{is_source, is_reactance}
 use Rattle.wdf_law.specs.declared.kind.Kind.{Kind}
 use Rattle.wdf_law.specs.declared.TheConstants.{MAX_SOURCES}
 use Rattle.wdf_netlist.specs.declared.TheConstants.{MAX_ELEMENTS, MAX_REACTANCES}
-use Rattle.wdf_netlist.specs.declared.net_kind.NetKind.{NetKind}
 use Rattle.wdf_netlist.specs.declared.net_kind.NetKind.TheVariants as kinds
 use Rattle.wdf_netlist.specs.declared.part.Part.{Part}
 use Rattle.wdf_netlist.specs.Circuits.{AreDistinct, IsElementValue}

@@ -1,5 +1,5 @@
 -- Two names are the same where their bytes are.
-use Rattle.std.proofs.Common.{◌≡◌, ◌≢◌, ◌≤◌, ℕ, zero, suc, ◌+◌, ◌-◌, Bool, true, false, ◌&&◌, eqb, ltb, not, Some, None, List, [], ◌∷◌, ◌++◌, length, replicate, refl, sym, ap, ◌∙◌, arith}
+use Rattle.std.proofs.Common.{◌≡◌, ◌≢◌, ◌≤◌, ℕ, suc, ◌-◌, Bool, true, false, ◌&&◌, eqb, ltb, not, Some, None, List, [], ◌∷◌, ◌++◌, length, replicate, refl, sym, ap, ◌∙◌, arith}
 use Rattle.wdf_text.specs.Names.{IsName, is_name, is_name_or_at_sign}
 use Rattle.std.specs.Prelude.{IsTrue, bytes_eq, if◌then◌else◌, nat_eq, position}
 use Rattle.std.specs.List.{list_any, position_or_len}

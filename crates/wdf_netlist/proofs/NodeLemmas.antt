@@ -1,8 +1,8 @@
 -- Nodes in the order in which they are first mentioned, and their numbers.
-use Rattle.std.proofs.Common.{◌≡◌, ◌≢◌, ℕ, zero, suc, ◌+◌, ◌-◌, ◌<◌, ◌≤◌, Bool, true, false, not, cond, ◌&&◌, ◌||◌, eqb, ltb, List, [], ◌∷◌, ◌++◌, length, get_or, take, map, flat_map, fold, Option, Some, None, refl, sym, ap, ◌∙◌, subst, ◌⊎◌, inl, inr, arith, length-append, append_assoc, append-nil, add-one, zero-add}
+use Rattle.std.proofs.Common.{◌≡◌, ◌≢◌, ℕ, zero, suc, ◌+◌, ◌<◌, ◌≤◌, Bool, true, false, eqb, List, [], ◌∷◌, ◌++◌, length, get_or, take, map, flat_map, fold, Some, refl, sym, ap, ◌∙◌, subst, arith, length-append, append_assoc, append-nil}
 use Rattle.std.specs.Prelude.{All, bytes_eq, slice_get}
-use Rattle.std.specs.List.{list_any, position_or_len, range_with_len}
-use Rattle.std.proofs.lemmas.Bool.{cond-true, cond-false, eq-eqb, eqb-true, false≢true, ne_eqb, or_parts}
+use Rattle.std.specs.List.{list_any, range_with_len}
+use Rattle.std.proofs.lemmas.Bool.{cond-true, cond-false, eq-eqb, false≢true, ne_eqb, or_parts}
 use Rattle.std.proofs.lemmas.List.{take_more}
 use Rattle.std.proofs.lemmas.List.Elements.{All-push}
 use Rattle.std.proofs.lemmas.Grind.{flat_map-append}
@@ -10,11 +10,11 @@ use Rattle.wdf_netlist.specs.Circuits.{AreDistinct, first_mentions, with_new}
 use Rattle.wdf_netlist.specs.TextRules.{nodes_of, place_of, with_part}
 use Rattle.wdf_netlist.specs.declared.part.Part.{Part}
 use Rattle.wdf_netlist.proofs.NameLemmas.{same_bytes, same_name}
-use Rattle.wdf_netlist.proofs.KeptLemmas.{distinct_more, taken_at}
+use Rattle.wdf_netlist.proofs.KeptLemmas.{distinct_more}
 
 -- ---- one more
 
-new_there : {X : Type 0} (same : X → X → Bool) (xs : List X) (x : X) → list_any (same x) xs ≡ true → with_new same xs x ≡ xs
+pub new_there : {X : Type 0} (same : X → X → Bool) (xs : List X) (x : X) → list_any (same x) xs ≡ true → with_new same xs x ≡ xs
 new_there same xs x e = cond-true _ _ _ e
 
 pub new_added : {X : Type 0} (same : X → X → Bool) (xs : List X) (x : X) → list_any (same x) xs ≡ false → with_new same xs x ≡ xs ++ x ∷ []
@@ -83,7 +83,7 @@ place_next (y ∷ acc) more x e =
     rw parts.0 (let p : 1 + place_of (acc ++ (x ∷ more)) x ≡ length (y ∷ acc) = omega (arith, place_next acc more x parts.1) in p)
 
 -- the name at the place of a name that is there is that name
-place_back : (names : List (List ℕ)) (x : List ℕ) → list_any (bytes_eq x) names ≡ true → slice_get names (place_of names x) ≡ Some x
+pub place_back : (names : List (List ℕ)) (x : List ℕ) → list_any (bytes_eq x) names ≡ true → slice_get names (place_of names x) ≡ Some x
 place_back [] x e = absurd (false≢true e)
 place_back (y ∷ names) x e = by (bytes_eq x y) refl (place_back names x)
   where

@@ -1,5 +1,5 @@
 -- What reading answers, and that it is the only reading.
-use Rattle.std.proofs.Common.{◌≡◌, ℕ, List, Result, Ok, Err, refl, sym, ap, ◌∙◌, subst}
+use Rattle.std.proofs.Common.{◌≡◌, ℕ, List, Result, Ok, Err, refl, sym, ap, ◌∙◌}
 use Rattle.std.specs.Prelude.{IfOk}
 use Rattle.wdf_netlist.specs.declared.net_fault.NetFault.{NetFault}
 use Rattle.wdf_netlist.specs.declared.read_error.ReadError.{ReadError}

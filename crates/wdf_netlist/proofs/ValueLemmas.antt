@@ -1,6 +1,5 @@
 -- The value of a word from its parts.
-use Rattle.std.proofs.Common.{◌≡◌, ℕ, ℤ, ◌+ℤ◌, true, List, Some, None, Result, Ok, Err, refl, sym, ap, ◌∙◌}
-use Rattle.std.specs.Prelude.{pos, unwrap_or}
+use Rattle.std.proofs.Common.{◌≡◌, ℕ, ℤ, ◌+ℤ◌, true, List, Some, Result, Ok, Err, refl, sym, ◌∙◌}
 use Rattle.wdf_text.specs.DecimalNumber.{DecimalNumber}
 use Rattle.wdf_text.specs.Decimals.{is_decimal, number_in}
 use Rattle.wdf_netlist.specs.declared.net_kind.NetKind.{NetKind}

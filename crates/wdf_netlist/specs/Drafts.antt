@@ -1,5 +1,5 @@
 -- How what the reader holds stands for what the lines so far say.
-use Rattle.std.specs.Prelude.{◌≡◌, ◌≢◌, ℕ, ◌≤◌, Bool, true, false, cond, List, [], ◌∷◌, ◌++◌, map, Option, Some, None, Result, Ok, Err, IfSome, IsSome, IsTrue}
+use Rattle.std.specs.Prelude.{◌≡◌, ◌≢◌, ℕ, ◌≤◌, true, false, cond, List, [], ◌∷◌, ◌++◌, map, Option, Some, None, Result, Ok, Err, IfSome, IsSome, IsTrue}
 use Rattle.std.specs.List.{list_all}
 use Rattle.wdf_text.specs.declared.word.Word.{Word}
 use Rattle.wdf_netlist.specs.declared.circuit_draft.CircuitDraft.{CircuitDraft}

@@ -1,5 +1,5 @@
 -- What the parts of a circuit keep while its lines are read.
-use Rattle.std.specs.Prelude.{◌≡◌, ◌≢◌, ℕ, ◌≤◌, Bool, true, false, List, [], ◌∷◌, length, Option, Some, None, All, IfSome, IsTrue}
+use Rattle.std.specs.Prelude.{◌≡◌, ◌≢◌, ◌≤◌, false, List, [], ◌∷◌, length, Option, Some, None, All, IsTrue}
 use Rattle.wdf_text.specs.DecimalNumber.{DecimalNumber}
 use Rattle.wdf_text.specs.Names.{IsName, is_name_or_at_sign}
 use Rattle.wdf_law.specs.Network.{is_source, is_reactance}

@@ -1,7 +1,6 @@
 -- The rules of a line: which may stand where, what its words are, and the fault of each word.
-use Rattle.std.specs.Prelude.{ℕ, pos, ◌+◌, Bool, true, false, not, ◌&&◌, ◌||◌, ◌==◌, nat_le, if◌then◌else◌, List, [], ◌∷◌, length, map, count_by, bytes_eq, codes, Option, Some, None, option_map, is_some, unwrap_or, Result, Ok, Err}
+use Rattle.std.specs.Prelude.{ℕ, pos, ◌+◌, Bool, true, not, ◌&&◌, ◌||◌, ◌==◌, nat_le, if◌then◌else◌, List, [], ◌∷◌, length, count_by, bytes_eq, codes, Option, Some, None, is_some, unwrap_or, Result, Ok, Err}
 use Rattle.std.specs.List.{list_any, list_all}
-use Rattle.std.specs.Char.{is_ascii_digit}
 use Rattle.wdf_text.specs.DecimalNumber.{DecimalNumber}
 use Rattle.wdf_text.specs.Names.{is_name}
 use Rattle.wdf_text.specs.Numbers.{number_of, is_whole}
@@ -19,7 +18,7 @@ use Rattle.wdf_netlist.specs.declared.mention.Mention.{Mention}
 use Rattle.wdf_netlist.specs.declared.part.Part.{Part}
 use Rattle.wdf_netlist.specs.declared.root_line.RootLine.TheVariants.{At, Shallow}
 use Rattle.wdf_netlist.specs.Lines.{Line, LineWord}
-use Rattle.wdf_netlist.specs.Statements.{Statement, branch_part, branches, element, first_said, is_branch, is_rate, last_circuit, lattice, load, load_said, names_of, parts_of, rate, rate_said, root, root_said, termination_said, branch}
+use Rattle.wdf_netlist.specs.Statements.{Statement, branch_part, branches, element, first_said, is_rate, last_circuit, lattice, load, load_said, names_of, parts_of, rate, rate_said, root, root_said, termination_said, branch}
 use Rattle.wdf_netlist.specs.Values.{value_fault, value_of}
 
 -- first this, and then what f makes of it; the first fault is answered

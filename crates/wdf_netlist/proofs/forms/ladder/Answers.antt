@@ -1,4 +1,4 @@
-use Rattle.std.proofs.Common.{◌≡◌, sym, ◌∙◌}
+use Rattle.std.proofs.Common.{sym, ◌∙◌}
 use Rattle.wdf_netlist.proofs.CircuitLemmas.{ladder_circuit, ladder_form}
 use Rattle.wdf_netlist.proofs.forms.ladder.Goals as goal
 

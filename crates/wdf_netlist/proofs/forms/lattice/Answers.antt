@@ -1,4 +1,4 @@
-use Rattle.std.proofs.Common.{◌≡◌, refl}
+use Rattle.std.proofs.Common.{refl}
 use Rattle.std.specs.Prelude.{IsSome}
 use Rattle.wdf_netlist.proofs.forms.lattice.Goals as goal
 

@@ -1,4 +1,4 @@
-use Rattle.std.proofs.Common.{◌≡◌, Result, sym, subst, ◌∙◌}
+use Rattle.std.proofs.Common.{Result, sym, subst, ◌∙◌}
 use Rattle.wdf_netlist.specs.declared.net_fault.NetFault.{NetFault}
 use Rattle.wdf_netlist.specs.Gathering.{GivesOrFails}
 use Rattle.wdf_netlist.specs.Netlists.{NetlistValue}

@@ -1,5 +1,4 @@
-use Rattle.std.proofs.Common.{◌≡◌, ℕ, List, [], ◌++◌, map, ap, ◌∙◌}
-use Rattle.wdf_netlist.specs.declared.part.Part.{Part}
+use Rattle.std.proofs.Common.{◌≡◌, ℕ, List, ◌++◌, map, ap, ◌∙◌}
 use Rattle.wdf_netlist.specs.TextRules.{nodes_of, numbered}
 use Rattle.wdf_netlist.proofs.numbering.circuit_of.Goals as goal
 

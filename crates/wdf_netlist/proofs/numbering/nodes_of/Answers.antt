@@ -1,6 +1,5 @@
-use Rattle.std.proofs.Common.{◌≡◌, ℕ, List, take, sym, ap, ◌∙◌, arith}
+use Rattle.std.proofs.Common.{ℕ, List, take, sym, ap, ◌∙◌, arith}
 use Rattle.std.proofs.lemmas.List.{take_all}
-use Rattle.wdf_netlist.specs.declared.part.Part.{Part}
 use Rattle.wdf_netlist.specs.TextRules.{nodes_of, with_part}
 use Rattle.wdf_netlist.proofs.NodeLemmas.{nodes_more}
 use Rattle.wdf_netlist.proofs.numbering.nodes_of.Goals as goal

@@ -1,4 +1,4 @@
-use Rattle.std.proofs.Common.{◌≡◌, refl, sym, ◌∙◌}
+use Rattle.std.proofs.Common.{refl, sym, ◌∙◌}
 use Rattle.wdf_netlist.proofs.sayings.read_keyword.Goals as goal
 
 pub returns-in-Some : goal.returns-in-Some

@@ -1,5 +1,5 @@
-use Rattle.wdf_netlist.specs.Statements.{lattice, rate}
-use Rattle.wdf_netlist.proofs.StandingLemmas.{no_lattice, no_rate}
+use Rattle.wdf_netlist.specs.Statements.{lattice}
+use Rattle.wdf_netlist.proofs.StandingLemmas.{no_lattice}
 use Rattle.wdf_netlist.proofs.sayings.read_lattice.Goals as goal
 
 pub returns : goal.returns

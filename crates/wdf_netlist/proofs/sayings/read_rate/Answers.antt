@@ -1,5 +1,5 @@
-use Rattle.wdf_netlist.specs.Statements.{lattice, rate}
-use Rattle.wdf_netlist.proofs.StandingLemmas.{no_lattice, no_rate}
+use Rattle.wdf_netlist.specs.Statements.{rate}
+use Rattle.wdf_netlist.proofs.StandingLemmas.{no_rate}
 use Rattle.wdf_netlist.proofs.sayings.read_rate.Goals as goal
 
 pub returns : goal.returns

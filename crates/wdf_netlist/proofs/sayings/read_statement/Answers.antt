@@ -1,6 +1,4 @@
-use Rattle.std.proofs.Common.{◌≡◌, None, refl, sym, ◌∙◌}
-use Rattle.std.specs.Prelude.{slice_range}
-use Rattle.wdf_netlist.specs.LineRules.{keyword_of}
+use Rattle.std.proofs.Common.{refl, sym, ◌∙◌}
 use Rattle.wdf_netlist.proofs.sayings.read_statement.Goals as goal
 
 pub returns-in-None : goal.returns-in-None

@@ -1,7 +1,4 @@
-use Rattle.std.proofs.Common.{◌≡◌, List, ◌∙◌}
-use Rattle.std.specs.Prelude.{IfSome}
-use Rattle.wdf_text.specs.declared.word.Word.{Word}
-use Rattle.wdf_netlist.specs.Places.{IsWordIn}
+use Rattle.std.proofs.Common.{◌∙◌}
 use Rattle.wdf_netlist.proofs.CuttingLemmas.{behind_fault, behind_more, fails_from}
 use Rattle.wdf_netlist.proofs.text_lines.read_lines.Goals as goal
 

@@ -1,5 +1,4 @@
-use Rattle.std.proofs.Common.{◌≡◌, ◌++◌, ◌≤◌, length}
-use Rattle.wdf_text.specs.declared.cursor.TheConstants.{MAX_TEXT}
+use Rattle.std.proofs.Common.{◌≡◌, ◌++◌, length}
 use Rattle.wdf_netlist.specs.Taking.{IsBehind, ahead_words}
 use Rattle.wdf_netlist.proofs.text_lines.read_lines.Given as goal
 

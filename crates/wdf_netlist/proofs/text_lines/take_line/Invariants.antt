@@ -1,4 +1,4 @@
-use Rattle.std.proofs.Common.{◌≡◌, ◌++◌, ◌≤◌, length}
+use Rattle.std.proofs.Common.{◌≡◌, ◌++◌, length}
 use Rattle.std.specs.Prelude.{All}
 use Rattle.wdf_text.specs.declared.word.Word.{Word}
 use Rattle.wdf_netlist.specs.Places.{IsWordIn}

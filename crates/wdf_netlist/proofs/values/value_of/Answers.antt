@@ -1,4 +1,4 @@
-use Rattle.std.proofs.Common.{◌≡◌, ℕ, ℤ, List, Some, sym, ap, subst, take, drop, ◌∙◌}
+use Rattle.std.proofs.Common.{◌≡◌, ℕ, ℤ, sym, ap, subst, take, drop, ◌∙◌}
 use Rattle.std.proofs.Math.Facts.{to_z-of_z}
 use Rattle.wdf_text.specs.Decimals.{is_decimal, number_in}
 use Rattle.wdf_netlist.specs.Values.{HasScaled, decimal_of, power_of_unit, unit_of}

@@ -1,4 +1,4 @@
-use Rattle.std.proofs.Common.{refl, ◌≤◌, arith}
+use Rattle.std.proofs.Common.{refl, arith}
 use Rattle.wdf_netlist.proofs.DraftLemmas.{begun, first_none, keeps_branch}
 use Rattle.wdf_netlist.proofs.draft.Draft.begin_first.Goals as goal
 

@@ -1,8 +1,6 @@
-use Rattle.std.proofs.Common.{◌≡◌, ◌+◌, false, Some, refl, ◌≤◌, arith}
-use Rattle.std.specs.Prelude.{IfSome}
+use Rattle.std.proofs.Common.{◌+◌, false, Some, refl, arith}
 use Rattle.wdf_netlist.specs.declared.draft.Draft.{Draft}
-use Rattle.wdf_netlist.specs.Drafts.{IsFirstBranch, IsSourceAlone, IsWholeDraft}
-use Rattle.wdf_netlist.specs.Statements.{branch}
+use Rattle.wdf_netlist.specs.Drafts.{IsSourceAlone}
 use Rattle.wdf_netlist.proofs.DraftLemmas.{begun, first_more, keeps_branch, whole_branch}
 use Rattle.wdf_netlist.proofs.draft.Draft.begin_second.Goals as goal
 

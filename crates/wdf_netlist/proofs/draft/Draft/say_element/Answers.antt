@@ -1,4 +1,4 @@
-use Rattle.std.proofs.Common.{◌≡◌, refl, ◌∙◌}
+use Rattle.std.proofs.Common.{refl, ◌∙◌}
 use Rattle.wdf_netlist.specs.Statements.{element, last_circuit, load_said, rate_said, termination_said}
 use Rattle.wdf_netlist.proofs.DraftLemmas.{keeps_element, more, own_part, rates_lost}
 use Rattle.wdf_netlist.proofs.StatementLemmas.{said_same}

@@ -1,7 +1,7 @@
-use Rattle.std.proofs.Common.{◌≡◌, refl, sym, ◌∙◌}
-use Rattle.wdf_netlist.specs.Statements.{last_circuit, load, load_said, lattice, rate, rate_said, root, root_said, termination_said}
-use Rattle.wdf_netlist.proofs.DraftLemmas.{keeps_lattice, keeps_same, more, no_first, not_rates, own_root, own_same, rates_kept, rates_lost}
-use Rattle.wdf_netlist.proofs.StatementLemmas.{said_new, said_same}
+use Rattle.std.proofs.Common.{refl, ◌∙◌}
+use Rattle.wdf_netlist.specs.Statements.{last_circuit, load_said, rate_said, root, termination_said}
+use Rattle.wdf_netlist.proofs.DraftLemmas.{keeps_same, more, not_rates, own_root, rates_lost}
+use Rattle.wdf_netlist.proofs.StatementLemmas.{said_same}
 use Rattle.wdf_netlist.proofs.draft.Draft.say_root.Goals as goal
 
 pub returns : goal.returns

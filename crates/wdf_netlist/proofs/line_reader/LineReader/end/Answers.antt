@@ -1,4 +1,4 @@
-use Rattle.std.proofs.Common.{◌≡◌, Err, sym, ap}
+use Rattle.std.proofs.Common.{Err, sym, ap}
 use Rattle.wdf_netlist.specs.declared.net_fault.NetFault.{NetFault}
 use Rattle.wdf_netlist.proofs.line_reader.LineReader.end.Goals as goal
 

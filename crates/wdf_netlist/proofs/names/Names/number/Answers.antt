@@ -1,4 +1,4 @@
-use Rattle.std.proofs.Common.{◌≡◌, ◌∙◌}
+use Rattle.std.proofs.Common.{◌∙◌}
 use Rattle.wdf_netlist.proofs.NameLemmas.{position_name}
 use Rattle.wdf_netlist.proofs.names.Names.number.Goals as goal
 

@@ -1,4 +1,4 @@
-use Rattle.std.proofs.Common.{◌≡◌, ◌∙◌, ap, length}
+use Rattle.std.proofs.Common.{◌∙◌, ap, length}
 use Rattle.wdf_netlist.proofs.NameLemmas.{no_place}
 use Rattle.wdf_netlist.proofs.names.Names.place.Goals as goal
 
