@@ -26,8 +26,8 @@ impl Networks {
         }
     }
 
-    /// How many samples a run takes in each frame: one for each source of its network.
-    pub(crate) fn sources_driven(&self) -> usize
+    /// How many samples a run takes in each frame, 1 to 8: one for each source of its network.
+    pub fn sources_driven(&self) -> usize
         ensures count { result ≡ sources_driven self.now }
         ensures some { 1 ≤ result }
         ensures few { result ≤ 8 }
