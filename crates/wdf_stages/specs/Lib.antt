@@ -1,0 +1,9 @@
+pub mod BoundStages
+pub mod Bounding
+pub mod Designing
+pub mod ElementNames
+pub mod FileLoading
+pub mod NetlistLoading
+pub mod Noting
+pub mod Opening
+pub mod StageLaws
