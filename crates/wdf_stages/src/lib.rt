@@ -23,6 +23,8 @@ mod noting;
 mod open_stop;
 mod opening;
 mod plan_bounds;
+#[cfg(test)]
+mod tests;
 
 pub use bound_stop::BoundStop;
 pub use bounding::bound_words;

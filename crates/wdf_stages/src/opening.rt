@@ -48,13 +48,11 @@ pub fn open_wave<I: Source>(input: &mut I, netlist: &Netlist, limit: u32) -> Res
         });
     }
     let sources = source_count(netlist.form());
-    if sources > 1 {
-        if head.channels != sources {
-            return Err(OpenStop::ChannelCount {
-                have: head.channels,
-                want: sources,
-            });
-        }
+    if sources > 1 && head.channels != sources {
+        return Err(OpenStop::ChannelCount {
+            have: head.channels,
+            want: sources,
+        });
     }
     if head.frames > limit {
         return Err(OpenStop::TooLong {
