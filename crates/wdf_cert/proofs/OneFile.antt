@@ -4,13 +4,14 @@ use Rattle.std.specs.Prelude.{All, decimal, codes, None, Some}
 use Rattle.std.proofs.lemmas.List.{append_cancel_left, take-append-drop, length-take-le, length-drop}
 use Rattle.std.proofs.lemmas.List.Elements.{All-head, All-tail, All-take, All-drop}
 use Rattle.std.proofs.Math.Nat.{pow-le-pow_right}
+use mathlib.Core.Logic.{inl, inr}
 use Rattle.wdf_residue.specs.Residue.{prime, AreResidues}
 use Rattle.wdf_check.specs.Certificate.{Certificate, HasSquareInverse}
 use Rattle.wdf_cert.specs.declared.cert_text_fault.CertTextFault.{CertTextFault}
-use Rattle.wdf_cert.specs.Format.{Format, finish, finish_or, token, Slot, word, mark, number, ends_word, spelled, Meets, HasFault}
+use Rattle.wdf_cert.specs.Format.{Format, finish, finish_or, token, Slot, word, mark, number, ends_word, spelled, Begins, IsInSlot, Meets, HasFault}
 use Rattle.wdf_cert.specs.CertText.{line, spaced, counted, number_line, number_lines, cert_text, cert_text_before, IsInRange}
-use Rattle.wdf_cert.specs.CertFormat.{word_mark, spaced_numbers, counted_numbers, residue_line, residue_lines, inverse_format, cert_format}
-use Rattle.wdf_cert.specs.Laws.{IsOneFile, IsAccepted}
+use Rattle.wdf_cert.specs.CertFormat.{word_mark, spaced_numbers, counted_numbers, residue_line, residue_lines, inverse_format, cert_format, file_format}
+use Rattle.wdf_cert.specs.Laws.{IsOneFile, IsAccepted, IsOneFault}
 use Rattle.wdf_cert.proofs.OneToken.{one-token, past}
 
 -- ---- no word runs into what stands behind it
@@ -250,3 +251,26 @@ accepted first (Some second) in-f square at fault h =
     end.1.0 refl
 
 pub ruleset text_laws = (one-file, accepted)
+
+-- ---- a text has one fault at most
+
+-- the number of a token that is there is in its range
+in-range : (slot : Slot) (v w : ℕ) (text behind rest : List ℕ) → Meets slot v text behind → Begins slot w text rest → IsInSlot slot w
+in-range slot v w text behind rest meets begins = subst (IsInSlot slot) (one-token slot v w text behind rest meets.begins begins).0 meets.range
+
+one-fault : (format : Format) (text : List ℕ) (at : ℕ) (f g : CertTextFault) → HasFault format text at f → HasFault format text at g → f ≡ g
+one-fault finish text at f g p q = p.1 ∙ sym q.1
+one-fault (finish_or more) text at f g p q = one-fault more text at f g p.1 q.1
+one-fault (token slot rest) text at f g (inl (inl none)) (inl (inl other)) = none.1 ∙ sym other.1
+one-fault (token slot rest) text at f g (inl (inl none)) (inl (inr out)) = absurd (none.0 out.0 out.1 out.2)
+one-fault (token slot rest) text at f g (inl (inl none)) (inr found) = absurd (none.0 found.0 found.1 found.2.begins)
+one-fault (token slot rest) text at f g (inl (inr out)) (inl (inl none)) = absurd (none.0 out.0 out.1 out.2)
+one-fault (token slot rest) text at f g (inl (inr out)) (inl (inr other)) = out.4 ∙ sym other.4
+one-fault (token slot rest) text at f g (inl (inr out)) (inr found) = absurd (out.3 (in-range slot found.0 out.0 text found.1 out.1 found.2 out.2))
+one-fault (token slot rest) text at f g (inr found) (inl (inl none)) = absurd (none.0 found.0 found.1 found.2.begins)
+one-fault (token slot rest) text at f g (inr found) (inl (inr out)) = absurd (out.3 (in-range slot found.0 out.0 text found.1 out.1 found.2 out.2))
+one-fault (token slot rest) text at f g (inr found) (inr other) =
+    one-fault (rest found.0) found.1 (at + length (spelled slot found.0)) f g found.3 (past slot rest found.0 text found.1 at g found.2 (inr other))
+
+pub one_fault : IsOneFault
+one_fault text fault other = one-fault file_format text 0 fault other

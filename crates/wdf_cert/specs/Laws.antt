@@ -1,5 +1,5 @@
 -- What the text of certificates implies.
-use Rattle.std.specs.Prelude.{◌≡◌, Option, ℕ}
+use Rattle.std.specs.Prelude.{◌≡◌, Option, List, ℕ}
 use Rattle.wdf_check.specs.Certificate.{Certificate}
 use Rattle.wdf_cert.specs.declared.cert_text_fault.CertTextFault.{CertTextFault}
 use Rattle.wdf_cert.specs.Format.{HasFault}
@@ -16,3 +16,7 @@ IsOneFile = (first first' : Certificate) (second second' : Option Certificate)
 abbrev pub IsAccepted : Type 0
 IsAccepted = (first : Certificate) (second : Option Certificate) → AreInRange first second → AreSquare first second
     → (at : ℕ) (fault : CertTextFault) → HasFault file_format (file_text first second) at fault → ⊥
+
+-- a text has one fault at most
+abbrev pub IsOneFault : Type 0
+IsOneFault = (text : List ℕ) (fault other : CertTextFault) → HasFault file_format text 0 fault → HasFault file_format text 0 other → fault ≡ other
