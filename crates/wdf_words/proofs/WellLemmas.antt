@@ -14,7 +14,7 @@ use Rattle.wdf_words.specs.declared.command.Command.TheVariants as commands
 use Rattle.wdf_words.specs.declared.values.Values.{Values}
 use Rattle.wdf_words.specs.declared.values.Values.TheVariants.{Text, Between, SampleWidth}
 use Rattle.wdf_words.specs.Operands.{Operand, amp, bits, cert, command_named, frames, guard, is_between, k, net, number_fault, operand_named, operands_of, order, shift, value_fault, values_of}
-use Rattle.wdf_words.specs.Orders.{HasRanges, IsFileNamed, NamesFiles, fault_at, first_fault, first_from, gives, is_equals, is_given, is_missing, name_in, number_given, number_in, operand_fault, order_given, place_given, reads_certificate, reads_netlist, usage, value_in, word_at, word_fault}
+use Rattle.wdf_words.specs.Orders.{HasRanges, IsFileNamed, NamesFiles, fault_at, first_fault, first_from, gives, is_equals, is_given, is_missing, name_in, number_given, number_in, number_of_operand, operand_fault, order_given, place_given, reads_certificate, reads_netlist, usage, value_in, word_at, word_fault}
 use Rattle.wdf_words.specs.Wellness.{AreWell, HaveRoom, NumberSuits, Suits}
 use Rattle.wdf_words.proofs.PlaceLemmas.{none_at}
 
@@ -224,16 +224,6 @@ counted_too : (o : Option ℕ) (d : ℕ) (P : ℕ → Type 0) → P d → IfSome
 counted_too None d P p s = p
 counted_too (Some n) d P p s = s
 
-pub ranges : (c : Command) (words : List (List ℕ)) → AreWell c words → HasRanges (order_given c words)
-ranges c words w = record {
-  k = counted_too (number_given k.name words) 14 (λ n. (1 ≤ n) × (n ≤ 20)) (omega arith, omega arith) (if_given c words k.name _ w (k_range c));
-  guard = if_given c words guard.name _ w (guard_range c);
-  shift = counted_too (number_given shift.name words) 0 (λ n. n ≤ 16) (omega arith) (if_given c words shift.name _ w (shift_range c));
-  frames = counted_too (number_given frames.name words) 67108864 (λ n. (1 ≤ n) × (n ≤ 4294967295)) (omega arith, omega arith) (if_given c words frames.name _ w (frames_range c));
-  amp = if_given c words amp.name _ w (amp_range c);
-  bits = counted_too (number_given bits.name words) 16 (λ n. is_sample_width n ≡ true) refl (if_given c words bits.name _ w (bits_range c));
-}
-
 -- ---- what is needed is given
 
 net_given : (c : Command) (words : List (List ℕ)) → list_any (is_missing words) (operands_of c) ≡ false → reads_netlist c ≡ true → is_given net.name words ≡ true
@@ -249,6 +239,44 @@ cert_given commands.Report words e r = absurd (false≢true r)
 cert_given commands.Certify words e r = absurd (false≢true r)
 cert_given commands.Check words e r = not-false _ (or_parts _ _ (or_parts _ _ e).1).0
 cert_given commands.Soak words e r = absurd (false≢true r)
+
+-- a number of `soak` that is given is in its range, whatever counts where none is
+soak_number : (words : List (List ℕ)) (name : List ℕ) (least most other : ℕ) → AreWell commands.Soak words → is_given name words ≡ true
+    → values_of (operand_named commands.Soak name) ≡ Some (Between least most) → (least ≤ unwrap_or (number_given name words) other) × (unwrap_or (number_given name words) other ≤ most)
+soak_number words name least most other well given between = by (place_given name words) refl
+  where
+    by : (o : Option ℕ) → place_given name words ≡ o → (least ≤ unwrap_or (number_given name words) other) × (unwrap_or (number_given name words) other ≤ most)
+    by None a = let g : is_given name words ≡ false = rw a refl in absurd (false≢true (sym g ∙ given))
+    by (Some at) a =
+        let s : Suits (Some (Between least most)) (value_in (word_at words at)) = subst (λ (v : Option Values). Suits v (value_in (word_at words at))) between (well_given commands.Soak words name at well a).2 in
+        let g : number_given name words ≡ Some (number_of (value_in (word_at words at))) = rw (a, s.0) refl in
+        rw g (s.1, s.2)
+
+soak_order : (words : List (List ℕ)) → AreWell commands.Soak words → is_given order.name words ≡ true
+soak_order words w = not-false _ (or_parts _ _ (or_parts _ _ w.whole).1).0
+
+soak_length : (words : List (List ℕ)) → AreWell commands.Soak words → is_given frames.name words ≡ true
+soak_length words w = not-false _ (or_parts _ _ (or_parts _ _ (or_parts _ _ w.whole).1).1).0
+
+soak_ranges : (c : Command) (words : List (List ℕ)) → AreWell c words → c ≡ commands.Soak → (1 ≤ number_of_operand order words) × (number_of_operand order words ≤ 32) × (number_of_operand frames words ≤ 4194304)
+soak_ranges commands.Run words w e = absurd (cc)
+soak_ranges commands.Report words w e = absurd (cc)
+soak_ranges commands.Certify words w e = absurd (cc)
+soak_ranges commands.Check words w e = absurd (cc)
+soak_ranges commands.Soak words w e =
+    let o = soak_number words order.name 1 32 0 w (soak_order words w) refl in
+    (o.0, o.1, (soak_number words frames.name 1 4194304 67108864 w (soak_length words w) refl).1)
+
+pub ranges : (c : Command) (words : List (List ℕ)) → AreWell c words → HasRanges (order_given c words)
+ranges c words w = record {
+  k = counted_too (number_given k.name words) 14 (λ n. (1 ≤ n) × (n ≤ 20)) (omega arith, omega arith) (if_given c words k.name _ w (k_range c));
+  guard = if_given c words guard.name _ w (guard_range c);
+  shift = counted_too (number_given shift.name words) 0 (λ n. n ≤ 16) (omega arith) (if_given c words shift.name _ w (shift_range c));
+  frames = counted_too (number_given frames.name words) 67108864 (λ n. (1 ≤ n) × (n ≤ 4294967295)) (omega arith, omega arith) (if_given c words frames.name _ w (frames_range c));
+  amp = if_given c words amp.name _ w (amp_range c);
+  bits = counted_too (number_given bits.name words) 16 (λ n. is_sample_width n ≡ true) refl (if_given c words bits.name _ w (bits_range c));
+  soak = λ e. soak_ranges c words w e;
+}
 
 file_given : (c : Command) (words : List (List ℕ)) (name : List ℕ) → AreWell c words → is_given name words ≡ true → IsFileNamed words (place_given name words)
 file_given c words name well given = by (place_given name words) refl

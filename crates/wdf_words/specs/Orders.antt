@@ -10,6 +10,7 @@ use Rattle.wdf_report.specs.declared.usage_kind.UsageKind.TheVariants as kinds
 use Rattle.wdf_text.specs.Numbers.{number_of, is_whole}
 use Rattle.wdf_bounds.specs.Plans.{PlanOf, plan_of, is_sample_width}
 use Rattle.wdf_words.specs.declared.command.Command.{Command}
+use Rattle.wdf_words.specs.declared.command.Command.TheVariants as commands
 use Rattle.wdf_words.specs.declared.order.Order.{Order}
 use Rattle.wdf_words.specs.declared.usage_fault.UsageFault.{UsageFault}
 use Rattle.wdf_words.specs.Operands.{Operand, is_needed, counted, command_named, operand_named, operands_of, value_fault, net, cert, k, guard, shift, frames, amp, bits, seed, order}
@@ -157,6 +158,7 @@ pub record HasRanges (o : Order) : Type 0 where
   pub frames : (1 ≤ o.frames) × (o.frames ≤ 4294967295)
   pub amp : IfSome o.amp (λ n. (1 ≤ n) × (n ≤ 2147483648))
   pub bits : IsTrue (is_sample_width o.bits)
+  pub soak : o.command ≡ commands.Soak → (1 ≤ o.order) × (o.order ≤ 32) × (o.frames ≤ 4194304)
 
 -- the greatest magnitude of a sample of this width
 abbrev pub full_scale : ℕ → ℕ

@@ -9,6 +9,8 @@ mod given;
 mod operands;
 mod order;
 mod reading;
+#[cfg(test)]
+mod tests;
 mod usage_fault;
 mod values;
 mod word;
