@@ -1,0 +1,3 @@
+mod StageLemmas
+mod StateLemmas
+mod TextLemmas

@@ -1,0 +1,4 @@
+pub mod CertStages
+pub mod CertChecking
+pub mod Certifying
+pub mod CertLoading
