@@ -106,6 +106,13 @@ impl Runner {
         );
     }
 
+    /// The networks that run.
+    pub fn networks(&self) -> &Networks
+        ensures { result.now ≡ self.now.networks }
+    {
+        &self.networks
+    }
+
     /// How many frames are done.
     pub fn done(&self) -> u32
         ensures value { result ≡ self.now.done }
