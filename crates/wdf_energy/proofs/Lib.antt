@@ -1,0 +1,6 @@
+mod BoundLemmas
+mod EnergyLemmas
+mod FrameLemmas
+mod NumberLemmas
+mod PartLemmas
+mod RunLemmas

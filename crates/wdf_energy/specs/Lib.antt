@@ -1,0 +1,4 @@
+pub mod Accounts
+pub mod LedgerLaws
+pub mod Totals
+pub mod WorkedTotals
