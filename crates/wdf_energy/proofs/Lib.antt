@@ -1,6 +1,10 @@
 mod BoundLemmas
 mod EnergyLemmas
 mod FrameLemmas
+mod LedgerLemmas
+mod ListLemmas
 mod NumberLemmas
 mod PartLemmas
+mod PartNumbers
+mod PortLemmas
 mod RunLemmas

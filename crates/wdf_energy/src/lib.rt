@@ -1,7 +1,12 @@
 //! The ledger: where the energy of a run went, in exact sums.
 #![tactic(auto)]
 
+mod account;
+mod group;
 pub mod laws;
+mod ledger;
+mod port;
 mod totals;
 
+pub use ledger::Ledger;
 pub use totals::Totals;
