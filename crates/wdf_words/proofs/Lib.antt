@@ -1,2 +1,3 @@
+pub mod MeaningLemmas
 mod PlaceLemmas
 mod WellLemmas

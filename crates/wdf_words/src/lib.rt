@@ -6,6 +6,7 @@
 
 mod command;
 mod given;
+pub mod laws;
 mod operands;
 mod order;
 mod reading;
