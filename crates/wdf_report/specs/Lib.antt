@@ -1,1 +1,3 @@
+pub mod FaultLine
+pub mod KindNames
 pub mod StatusCode
