@@ -16,7 +16,7 @@ use Rattle.wdf_residue.proofs.VectorLemmas.{vec, dot-same}
 use Rattle.wdf_residue.proofs.Reduced.{rows_taken}
 use Rattle.wdf_residue.proofs.Ends.{entry-unit}
 
-weighed-total : (n : ℕ) (row : List ℕ) (zs : List ℤ) → length zs ≤ n → weighed row zs ≡ along n (vec row) (λ j. slice_index_or zs j (pos 0))
+pub weighed-total : (n : ℕ) (row : List ℕ) (zs : List ℤ) → length zs ≤ n → weighed row zs ≡ along n (vec row) (λ j. slice_index_or zs j (pos 0))
 weighed-total n [] zs h = sym (total-nought n (λ j. vec [] j *ℤ slice_index_or zs j (pos 0)) (λ j less. zero-mul (slice_index_or zs j (pos 0))))
 weighed-total n (x ∷ xs) [] h =
     sym (total-nought n (λ j. vec (x ∷ xs) j *ℤ slice_index_or [] j (pos 0)) (λ j less. *ℤ_comm (vec (x ∷ xs) j) (pos 0) ∙ zero-mul (vec (x ∷ xs) j)))

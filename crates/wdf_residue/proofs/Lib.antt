@@ -2,6 +2,7 @@ pub mod Amounts
 pub mod Ends
 pub mod Inverses
 pub mod LeftInverses
+pub mod OneElimination
 pub mod Onto
 pub mod Orders
 pub mod Powers
