@@ -1,3 +1,3 @@
 pub mod MeaningLemmas
 mod PlaceLemmas
-mod WellLemmas
+mod WellFormedLemmas

@@ -1,4 +1,4 @@
 pub mod Meanings
 pub mod Operands
 pub mod Orders
-pub mod Wellness
+pub mod WellFormed

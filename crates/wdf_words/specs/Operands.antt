@@ -1,18 +1,5 @@
 -- The operands of the command line: those of each command, what their values may be, and what is taken where they are
 -- not given.
---
---   operand  commands                     value             where it is not given
---   net      run, report, certify, check  text              needed
---   cert     check                        text              needed
---   k        run, report, certify, check  1..=20            14
---   guard    run, report                  0..=16            4, or 0 for samples of 32 bits
---   shift    run, report                  0..=16            0
---   frames   run, report                  1..=4294967295    67108864
---   amp      run, report                  1..=2147483648    full scale
---   bits     report                       8, 16, 24 or 32   16
---   seed     soak                         0..=2^64-1        needed
---   order    soak                         1..=32            needed
---   frames   soak                         1..=4194304       needed
 use Rattle.std.specs.Prelude.{ℕ, Bool, true, false, ◌&&◌, nat_le, if◌then◌else◌, List, [], ◌∷◌, bytes_eq, codes, Option, Some, None, option_map}
 use Rattle.std.specs.List.{find}
 use Rattle.wdf_report.specs.declared.usage_kind.UsageKind.{UsageKind}
@@ -24,6 +11,7 @@ use Rattle.wdf_words.specs.declared.command.Command.TheVariants as commands
 use Rattle.wdf_words.specs.declared.values.Values.{Values}
 use Rattle.wdf_words.specs.declared.values.Values.TheVariants.{Text, Between, SampleWidth}
 
+-- the command of this name
 abbrev pub command_named : List ℕ → Option Command
 command_named w =
     if bytes_eq w (codes "run") then Some commands.Run
@@ -41,6 +29,7 @@ pub data Absent : Type 0 where
   by_wave : Absent  -- the wave decides
   counts_as : ℕ → Absent
 
+-- the operand has to be given
 abbrev pub is_needed : Absent → Bool
 is_needed needed = true
 is_needed by_wave = false
@@ -57,6 +46,7 @@ pub record Operand : Type 0 where
   pub values : Values
   pub absent : Absent
 
+-- a row of the table
 abbrev pub operand : List ℕ → Values → Absent → Operand
 operand name values absent = record { name = name; values = values; absent = absent }
 
@@ -93,6 +83,7 @@ order = operand (codes "order") (Between 1 32) needed
 abbrev pub soak_frames : Operand
 soak_frames = operand (codes "frames") (Between 1 4194304) needed
 
+-- those of each command
 abbrev pub operands_of : Command → List Operand
 operands_of commands.Run = net ∷ k ∷ guard ∷ shift ∷ frames ∷ amp ∷ []
 operands_of commands.Report = net ∷ k ∷ guard ∷ shift ∷ frames ∷ amp ∷ bits ∷ []
@@ -100,6 +91,7 @@ operands_of commands.Certify = net ∷ k ∷ []
 operands_of commands.Check = net ∷ cert ∷ k ∷ []
 operands_of commands.Soak = seed ∷ order ∷ soak_frames ∷ []
 
+-- the one of this name
 abbrev pub named : List Operand → List ℕ → Option Operand
 named operands name = find (λ (o : Operand). bytes_eq name o.name) operands
 
@@ -118,9 +110,11 @@ abbrev pub number_fault : (ℕ → Bool) → List ℕ → Option UsageKind
 number_fault passes value =
     if is_whole value then (if passes (number_of value) then None else Some kinds.OutOfRange) else Some kinds.BadNumber
 
+-- both ends included
 abbrev pub is_between : ℕ → ℕ → ℕ → Bool
 is_between least most n = nat_le least n && nat_le n most
 
+-- with one of these values
 abbrev pub value_fault : Values → List ℕ → Option UsageKind
 value_fault Text value = None
 value_fault (Between least most) value = number_fault (is_between least most) value

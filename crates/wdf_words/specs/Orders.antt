@@ -48,9 +48,11 @@ word_at words at = get_or words at []
 abbrev pub place_given : List ℕ → List (List ℕ) → Option ℕ
 place_given name words = position (gives name) words
 
+-- some word gives it
 abbrev pub is_given : List ℕ → List (List ℕ) → Bool
 is_given name words = is_some (place_given name words)
 
+-- what f makes of what is there
 abbrev pub option_then : {A B : Type 0} → Option A → (A → Option B) → Option B
 option_then None f = None
 option_then (Some x) f = f x
@@ -61,7 +63,7 @@ number_given name words = option_then (place_given name words) (λ at. number_in
 
 -- ---- faults
 
--- what is wrong with a word behind those before it, of the command's operand whose name it has
+-- that of a word with an `=`, by the operand that it names
 abbrev pub operand_fault : Option Operand → List (List ℕ) → List ℕ → Option UsageKind
 operand_fault None before w = Some kinds.UnknownOperand
 operand_fault (Some o) before w =
@@ -69,6 +71,7 @@ operand_fault (Some o) before w =
     else (if length (value_in w) == 0 then Some kinds.EmptyValue
     else value_fault o.values (value_in w))
 
+-- what is wrong with a word behind those before it, for this command
 abbrev pub word_fault : Command → List (List ℕ) → List ℕ → Option UsageKind
 word_fault c before w = if list_any is_equals w then operand_fault (operand_named c (name_in w)) before w else Some kinds.NoEquals
 
@@ -92,6 +95,7 @@ first_fault c words = option_map (λ f. usage f.0 f.1) (first_from (fault_at c w
 abbrev pub is_missing : List (List ℕ) → Operand → Bool
 is_missing words o = is_needed o.absent && not (is_given o.name words)
 
+-- where one is, that is told at the number of words
 abbrev pub missing_fault : Command → List (List ℕ) → Option UsageFault
 missing_fault c words = if list_any (is_missing words) (operands_of c) then Some (usage (length words) kinds.MissingOperand) else None
 
@@ -101,6 +105,7 @@ missing_fault c words = if list_any (is_missing words) (operands_of c) then Some
 abbrev pub number_of_operand : Operand → List (List ℕ) → ℕ
 number_of_operand o words = unwrap_or (number_given o.name words) (counted o.absent)
 
+-- what words without fault ask for
 abbrev pub order_given : Command → List (List ℕ) → Order
 order_given c words = record {
   command = c;
@@ -116,10 +121,12 @@ order_given c words = record {
   order = number_of_operand order words;
 }
 
+-- the order, where there is no fault
 abbrev pub unless_fault : Option UsageFault → Order → Result Order UsageFault
 unless_fault None o = Ok o
 unless_fault (Some fault) o = Err fault
 
+-- what the words of a command ask for
 abbrev pub order_by : Option Command → List (List ℕ) → Result Order UsageFault
 order_by None words = Err (usage 0 kinds.UnknownCommand)
 order_by (Some c) words = unless_fault (option_or (first_fault c words) (missing_fault c words)) (order_given c words)
@@ -131,6 +138,7 @@ order_of (first ∷ rest) = order_by (command_named first) (first ∷ rest)
 
 -- ---- files and plans
 
+-- the name of a file: what stands behind the `=` of the word at its place
 abbrev pub file_named : List (List ℕ) → ℕ → List ℕ
 file_named words at = value_in (word_at words at)
 
@@ -139,6 +147,7 @@ abbrev pub IsFileNamed : List (List ℕ) → Option ℕ → Type 0
 IsFileNamed words None = ⊥
 IsFileNamed words (Some at) = (at < length words) × (1 ≤ length (file_named words at))
 
+-- the command reads a netlist, a certificate
 abbrev pub reads_netlist : Command → Bool
 reads_netlist c = is_some (operand_named c net.name)
 

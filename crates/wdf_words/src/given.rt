@@ -1,7 +1,6 @@
 //! What the words give, by the names of operands.
 
 ghost use Rattle.std.specs.Prelude.{◌≡◌, ◌<◌, IfSome, length};
-ghost use Rattle.wdf_words.specs.Operands.{Operand, counted};
 ghost use Rattle.wdf_words.specs.Orders.{file_named, is_given, number_given, place_given, texts};
 
 use crate::word::{gives, value_in};

@@ -3,7 +3,7 @@
 ghost use Rattle.std.specs.Prelude.{◌≡◌, ◌≤◌, IfOk, IfSome, Some};
 ghost use Rattle.wdf_words.specs.Operands.{command_named};
 ghost use Rattle.wdf_words.specs.Orders.{HasRanges, NamesFiles, first_fault, number_given, order_by, order_given, order_of, texts, word_at, word_fault};
-ghost use Rattle.wdf_words.specs.Wellness.{HaveRoom};
+ghost use Rattle.wdf_words.specs.WellFormed.{HaveRoom};
 
 use crate::command::command_named;
 use crate::given::{is_given, number_given, place_given};

@@ -1,7 +1,7 @@
 use Rattle.std.proofs.Common.{rules, List, ℕ, sym, ap, ◌∙◌, eqb, length}
 use Rattle.wdf_words.specs.Operands.{operand_named, value_fault, values_of}
 use Rattle.wdf_words.specs.Orders.{is_given, texts}
-use Rattle.wdf_words.proofs.WellLemmas.{value_of_word}
+use Rattle.wdf_words.proofs.WellFormedLemmas.{value_of_word}
 use Rattle.wdf_words.proofs.reading.word_fault.Goals as goal
 
 pub returns : goal.returns

@@ -15,7 +15,7 @@ use Rattle.wdf_words.specs.declared.values.Values.{Values}
 use Rattle.wdf_words.specs.declared.values.Values.TheVariants.{Text, Between, SampleWidth}
 use Rattle.wdf_words.specs.Operands.{Operand, amp, bits, cert, command_named, frames, guard, is_between, k, net, number_fault, operand_named, operands_of, order, shift, value_fault, values_of}
 use Rattle.wdf_words.specs.Orders.{HasRanges, IsFileNamed, NamesFiles, fault_at, first_fault, first_from, gives, is_equals, is_given, is_missing, name_in, number_given, number_in, number_of_operand, operand_fault, order_given, place_given, reads_certificate, reads_netlist, usage, value_in, word_at, word_fault}
-use Rattle.wdf_words.specs.Wellness.{AreWell, HaveRoom, NumberSuits, Suits}
+use Rattle.wdf_words.specs.WellFormed.{AreWellFormed, HaveRoom, NumberSuits, Suits}
 use Rattle.wdf_words.proofs.PlaceLemmas.{none_at}
 
 same_name : (xs ys : List ℕ) → bytes_eq xs ys ≡ true → xs ≡ ys
@@ -96,8 +96,8 @@ value_of_word c before w v a e d n = by (operand_named c (name_in w)) refl
 
 -- ---- all words
 
-pub are_well : (c : Command) (words : List (List ℕ)) → command_named (word_at words 0) ≡ Some c → first_fault c words ≡ None → list_any (is_missing words) (operands_of c) ≡ false → AreWell c words
-are_well c words command first whole = record { command = command; first = first; whole = whole }
+pub are_well_formed : (c : Command) (words : List (List ℕ)) → command_named (word_at words 0) ≡ Some c → first_fault c words ≡ None → list_any (is_missing words) (operands_of c) ≡ false → AreWellFormed c words
+are_well_formed c words command first whole = record { command = command; first = first; whole = whole }
 
 no_first : (c : Command) (words : List (List ℕ)) → first_fault c words ≡ None → first_from (fault_at c words) 1 (length words - 1) ≡ None
 no_first c words e = by (first_from (fault_at c words) 1 (length words - 1)) refl
@@ -106,7 +106,7 @@ no_first c words e = by (first_from (fault_at c words) 1 (length words - 1)) ref
     by None a = a
     by (Some f) a = let g : first_fault c words ≡ Some (usage f.0 f.1) = rw a refl in absurd (let z : None ≡ Some (usage f.0 f.1) = sym e ∙ g in cc)
 
-well_given : (c : Command) (words : List (List ℕ)) (name : List ℕ) (at : ℕ) → AreWell c words → place_given name words ≡ Some at
+well_given : (c : Command) (words : List (List ℕ)) (name : List ℕ) (at : ℕ) → AreWellFormed c words → place_given name words ≡ Some at
     → (at < length words) × (1 ≤ length (value_in (word_at words at))) × Suits (values_of (operand_named c name)) (value_in (word_at words at))
 well_given c words name at well e =
     let p = position-Some (gives name) words at [] e in
@@ -137,7 +137,7 @@ number_suits v value n s e = by (is_whole value) refl v s
         let same : number_of value ≡ n = cc in
         subst (λ (x : ℕ). is_sample_width x ≡ true) same h.1
 
-well_number : (c : Command) (words : List (List ℕ)) (name : List ℕ) (n : ℕ) → AreWell c words → number_given name words ≡ Some n → NumberSuits (values_of (operand_named c name)) n
+well_number : (c : Command) (words : List (List ℕ)) (name : List ℕ) (n : ℕ) → AreWellFormed c words → number_given name words ≡ Some n → NumberSuits (values_of (operand_named c name)) n
 well_number c words name n well e = by (place_given name words) refl
   where
     by : (o : Option ℕ) → place_given name words ≡ o → NumberSuits (values_of (operand_named c name)) n
@@ -146,7 +146,7 @@ well_number c words name n well e = by (place_given name words) refl
         let g : number_given name words ≡ number_in (value_in (word_at words at)) = rw a refl in
         number_suits (values_of (operand_named c name)) (value_in (word_at words at)) n (well_given c words name at well a).2 (sym g ∙ e)
 
-if_given : (c : Command) (words : List (List ℕ)) (name : List ℕ) (P : ℕ → Type 0) → AreWell c words → ((n : ℕ) → NumberSuits (values_of (operand_named c name)) n → P n) → IfSome (number_given name words) P
+if_given : (c : Command) (words : List (List ℕ)) (name : List ℕ) (P : ℕ → Type 0) → AreWellFormed c words → ((n : ℕ) → NumberSuits (values_of (operand_named c name)) n → P n) → IfSome (number_given name words) P
 if_given c words name P well have = by (number_given name words) refl
   where
     by : (o : Option ℕ) → number_given name words ≡ o → IfSome o P
@@ -208,7 +208,7 @@ order_range commands.Soak n s = s
 few_bits : (n : ℕ) → is_sample_width n ≡ true → n ≤ 255
 few_bits n e = grind (arith, nat_tests)
 
-pub have_room : (c : Command) (words : List (List ℕ)) → AreWell c words → HaveRoom words
+pub have_room : (c : Command) (words : List (List ℕ)) → AreWellFormed c words → HaveRoom words
 have_room c words w = record {
   k = if_given c words k.name _ w (λ n s. omega (arith, (k_range c n s).1));
   guard = if_given c words guard.name _ w (λ n s. omega (arith, guard_range c n s));
@@ -241,7 +241,7 @@ cert_given commands.Check words e r = not-false _ (or_parts _ _ (or_parts _ _ e)
 cert_given commands.Soak words e r = absurd (false≢true r)
 
 -- a number of `soak` that is given is in its range, whatever counts where none is
-soak_number : (words : List (List ℕ)) (name : List ℕ) (least most other : ℕ) → AreWell commands.Soak words → is_given name words ≡ true
+soak_number : (words : List (List ℕ)) (name : List ℕ) (least most other : ℕ) → AreWellFormed commands.Soak words → is_given name words ≡ true
     → values_of (operand_named commands.Soak name) ≡ Some (Between least most) → (least ≤ unwrap_or (number_given name words) other) × (unwrap_or (number_given name words) other ≤ most)
 soak_number words name least most other well given between = by (place_given name words) refl
   where
@@ -252,13 +252,13 @@ soak_number words name least most other well given between = by (place_given nam
         let g : number_given name words ≡ Some (number_of (value_in (word_at words at))) = rw (a, s.0) refl in
         rw g (s.1, s.2)
 
-soak_order : (words : List (List ℕ)) → AreWell commands.Soak words → is_given order.name words ≡ true
+soak_order : (words : List (List ℕ)) → AreWellFormed commands.Soak words → is_given order.name words ≡ true
 soak_order words w = not-false _ (or_parts _ _ (or_parts _ _ w.whole).1).0
 
-soak_length : (words : List (List ℕ)) → AreWell commands.Soak words → is_given frames.name words ≡ true
+soak_length : (words : List (List ℕ)) → AreWellFormed commands.Soak words → is_given frames.name words ≡ true
 soak_length words w = not-false _ (or_parts _ _ (or_parts _ _ (or_parts _ _ w.whole).1).1).0
 
-soak_ranges : (c : Command) (words : List (List ℕ)) → AreWell c words → c ≡ commands.Soak → (1 ≤ number_of_operand order words) × (number_of_operand order words ≤ 32) × (number_of_operand frames words ≤ 4194304)
+soak_ranges : (c : Command) (words : List (List ℕ)) → AreWellFormed c words → c ≡ commands.Soak → (1 ≤ number_of_operand order words) × (number_of_operand order words ≤ 32) × (number_of_operand frames words ≤ 4194304)
 soak_ranges commands.Run words w e = absurd (cc)
 soak_ranges commands.Report words w e = absurd (cc)
 soak_ranges commands.Certify words w e = absurd (cc)
@@ -267,7 +267,7 @@ soak_ranges commands.Soak words w e =
     let o = soak_number words order.name 1 32 0 w (soak_order words w) refl in
     (o.0, o.1, (soak_number words frames.name 1 4194304 67108864 w (soak_length words w) refl).1)
 
-pub ranges : (c : Command) (words : List (List ℕ)) → AreWell c words → HasRanges (order_given c words)
+pub ranges : (c : Command) (words : List (List ℕ)) → AreWellFormed c words → HasRanges (order_given c words)
 ranges c words w = record {
   k = counted_too (number_given k.name words) 14 (λ n. (1 ≤ n) × (n ≤ 20)) (omega arith, omega arith) (if_given c words k.name _ w (k_range c));
   guard = if_given c words guard.name _ w (guard_range c);
@@ -278,14 +278,14 @@ ranges c words w = record {
   soak = λ e. soak_ranges c words w e;
 }
 
-file_given : (c : Command) (words : List (List ℕ)) (name : List ℕ) → AreWell c words → is_given name words ≡ true → IsFileNamed words (place_given name words)
+file_given : (c : Command) (words : List (List ℕ)) (name : List ℕ) → AreWellFormed c words → is_given name words ≡ true → IsFileNamed words (place_given name words)
 file_given c words name well given = by (place_given name words) refl
   where
     by : (o : Option ℕ) → place_given name words ≡ o → IsFileNamed words o
     by None e = let g : is_given name words ≡ false = rw e refl in absurd (false≢true (sym g ∙ given))
     by (Some at) e = let w = well_given c words name at well e in (w.0, w.1)
 
-pub files : (c : Command) (words : List (List ℕ)) → AreWell c words → NamesFiles words (order_given c words)
+pub files : (c : Command) (words : List (List ℕ)) → AreWellFormed c words → NamesFiles words (order_given c words)
 files c words well = record {
   net = λ r. file_given c words net.name well (net_given c words well.whole r);
   cert = λ r. file_given c words cert.name well (cert_given c words well.whole r);

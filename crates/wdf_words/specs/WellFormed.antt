@@ -10,7 +10,7 @@ use Rattle.wdf_words.specs.Operands.{command_named, operands_of, k, guard, shift
 use Rattle.wdf_words.specs.Orders.{first_fault, is_missing, number_given, word_at}
 
 -- words of the command c without fault, none of which is missing
-pub record AreWell (c : Command) (words : List (List ℕ)) : Type 0 where
+pub record AreWellFormed (c : Command) (words : List (List ℕ)) : Type 0 where
   pub command : command_named (word_at words 0) ≡ Some c
   pub first : first_fault c words ≡ None
   pub whole : list_any (is_missing words) (operands_of c) ≡ false
