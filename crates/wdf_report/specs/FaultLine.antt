@@ -24,11 +24,10 @@
 --   wdf: 20 no memory
 --   wdf: 21 unbuilt part P
 --   wdf: 23 channels have A want B
-use Rattle.std.specs.Prelude.{◌≡◌, ◌≢◌, ℕ, Bool, if◌then◌else◌, ◌==◌, List, [], ◌∷◌, ◌++◌, length, Option, None, Some, codes, decimal}
+use Rattle.std.specs.Prelude.{◌≢◌, ℕ, if◌then◌else◌, ◌==◌, List, [], ◌∷◌, ◌++◌, length, Option, None, Some, codes, decimal}
 use Rattle.std.specs.Fmt.{signed_decimal}
 use Rattle.wdf_law.specs.declared.side.Side.{Side}
 use Rattle.wdf_law.specs.declared.side.Side.TheVariants as sides
-use Rattle.wdf_netlist.specs.declared.net_fault.NetFault.{NetFault}
 use Rattle.wdf_check.specs.declared.cert_fault.CertFault.{CertFault}
 use Rattle.wdf_check.specs.declared.cert_fault.CertFault.TheVariants as faults
 use Rattle.wdf_report.specs.declared.status.Status.{Status}

@@ -8,6 +8,8 @@
 mod fault_lines;
 mod kind_names;
 mod status;
+#[cfg(test)]
+mod tests;
 mod usage_kind;
 
 pub use fault_lines::{fault_line, push_branch};

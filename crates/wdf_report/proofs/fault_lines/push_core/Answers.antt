@@ -1,4 +1,4 @@
-use Rattle.std.proofs.Common.{◌≡◌, List, ℕ, length, sym, ap, ◌∙◌}
+use Rattle.std.proofs.Common.{List, ℕ, length, sym, ap, ◌∙◌}
 use Rattle.std.proofs.lemmas.List.{length-map}
 use Rattle.std.specs.Prelude.{◌++◌, codes}
 use Rattle.wdf_sp.specs.Edges.{arc}

@@ -1,4 +1,4 @@
-use Rattle.std.proofs.Common.{◌≡◌, List, ℕ, refl, ap, ◌∙◌, append-nil, append_assoc, sym, Option}
+use Rattle.std.proofs.Common.{List, ℕ, ap, ◌∙◌, append-nil, append_assoc, sym, Option}
 use Rattle.std.specs.Prelude.{◌++◌, codes, decimal}
 use Rattle.wdf_report.specs.FaultLine.{name_text}
 use Rattle.wdf_report.specs.KindNames.{netlist_name}

@@ -1,4 +1,4 @@
-use Rattle.std.proofs.Common.{◌≡◌, ◌++◌, length, ap, ◌∙◌, arith, rules, length-append}
+use Rattle.std.proofs.Common.{◌≡◌, length, ap, arith, rules, length-append}
 use Rattle.std.specs.Prelude.{decimal}
 use Rattle.wdf_report.proofs.LengthLemmas.{number_short}
 use Rattle.wdf_report.proofs.fault_lines.push_number.Goals as goal

@@ -1,4 +1,4 @@
-use Rattle.std.proofs.Common.{◌≡◌, List, ℕ, refl, ap, ◌∙◌, sym}
+use Rattle.std.proofs.Common.{List, ℕ, refl, ap, ◌∙◌, sym}
 use Rattle.std.specs.Prelude.{◌++◌, codes, decimal}
 use Rattle.wdf_check.specs.declared.cert_fault.CertFault.{CertFault}
 use Rattle.wdf_report.specs.FaultLine.{refusal_text}

@@ -1,4 +1,4 @@
-use Rattle.std.proofs.Common.{◌≡◌, ◌++◌, length, ap, arith, rules, length-append, to_z, of_z}
+use Rattle.std.proofs.Common.{◌≡◌, length, ap, arith, rules, length-append, to_z, of_z}
 use Rattle.std.specs.Fmt.{signed_decimal}
 use mir.Syntax.{w128}
 use Rattle.wdf_report.proofs.LengthLemmas.{widened_short}

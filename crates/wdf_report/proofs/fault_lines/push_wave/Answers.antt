@@ -1,4 +1,4 @@
-use Rattle.std.proofs.Common.{◌≡◌, List, ℕ, refl, ap, ◌∙◌}
+use Rattle.std.proofs.Common.{List, ℕ, refl, ap, ◌∙◌}
 use Rattle.std.specs.Prelude.{◌++◌, codes, decimal}
 use Rattle.wdf_report.specs.KindNames.{wave_name}
 use Rattle.wdf_report.proofs.Appends.{begins, piece}

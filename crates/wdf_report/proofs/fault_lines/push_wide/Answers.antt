@@ -1,4 +1,4 @@
-use Rattle.std.proofs.Common.{◌≡◌, ◌++◌, length, ap, arith, length-append}
+use Rattle.std.proofs.Common.{length, ap, arith, length-append}
 use Rattle.std.specs.Prelude.{decimal}
 use Rattle.wdf_report.proofs.LengthLemmas.{wide_short}
 use Rattle.wdf_report.proofs.fault_lines.push_wide.Goals as goal
