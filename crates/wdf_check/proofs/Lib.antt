@@ -1,3 +1,5 @@
+mod OneCheck
+mod Residues
 pub mod ExactSteps
 pub mod LinearSteps
 pub mod NoReturn

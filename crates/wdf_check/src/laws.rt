@@ -2,6 +2,7 @@
 //! calls laws of the crates below.
 ghost use Rattle.std.specs.Prelude.{ℕ, List};
 ghost use Rattle.wdf_check.specs.Certificate.{Certifies, Obstructs};
+ghost use Rattle.wdf_check.specs.Laws.{HasOneCheck, HasResidues};
 ghost use Rattle.wdf_check.specs.Returning.{NeverReturns};
 
 use crate::Cert;
@@ -32,3 +33,18 @@ pub fn no_obstruction(net: &Net, cert: &Cert)
 {
     wdf_residue::laws::left_inverse();
 }
+
+/// Each entry of the observability matrix is a residue.
+#[tactic(auto, using(crate::proofs::Residues::residues))]
+pub fn residues()
+    ensures { HasResidues }
+{}
+
+/// A network and a certificate have one answer of the check, want of memory aside: what [`check`]
+/// answers is all that it could.
+///
+/// [`check`]: crate::check
+#[tactic(auto, using(crate::proofs::OneCheck::one_check))]
+pub fn one_check()
+    ensures { HasOneCheck }
+{}
