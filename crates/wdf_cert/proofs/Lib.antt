@@ -1,5 +1,6 @@
 pub mod CertReading
 pub mod OneFile
+mod OneMaking
 pub mod OneToken
 pub mod Parts
 pub mod ReadingLemmas

@@ -1,10 +1,24 @@
--- What the text of certificates implies.
+-- What certificates and their text imply.
 use Rattle.std.specs.Prelude.{◌≡◌, Option, List, ℕ}
-use Rattle.wdf_check.specs.Certificate.{Certificate}
+use Rattle.wdf_law.specs.Network.{Network}
+use Rattle.wdf_residue.specs.Elimination.{IsFirstDependence}
+use Rattle.wdf_check.specs.Certificate.{Certificate, HasSquareInverse}
+use Rattle.wdf_check.specs.Observability.{observability}
 use Rattle.wdf_cert.specs.declared.cert_text_fault.CertTextFault.{CertTextFault}
 use Rattle.wdf_cert.specs.Format.{HasFault}
 use Rattle.wdf_cert.specs.CertFormat.{file_format}
 use Rattle.wdf_cert.specs.CertText.{file_text, AreInRange, AreSquare}
+use Rattle.wdf_cert.specs.Making.{IsMade}
+
+-- a network has one certificate of its first independent rows, or one first state that depends on those before it, and how
+pub record HasOneMaking (n : Network) : Type 0 where
+  pub certificate : (c d : Certificate) → IsMade n c → IsMade n d → HasSquareInverse c → HasSquareInverse d → c ≡ d
+  pub dependence : (state other : ℕ) (v w : List ℕ) → IsFirstDependence (observability n) state v → IsFirstDependence (observability n) other w
+      → (state ≡ other) × (v ≡ w)
+  pub either : (c : Certificate) (state : ℕ) (v : List ℕ) → IsMade n c → HasSquareInverse c → IsFirstDependence (observability n) state v → ⊥
+
+abbrev pub IsOneMaking : Type 0
+IsOneMaking = (n : Network) → HasOneMaking n
 
 -- two files with the same text have the same certificates
 abbrev pub IsOneFile : Type 0
