@@ -1,3 +1,6 @@
+mod OneCertifying
+mod OneChecking
+mod OneLoading
 mod StageLemmas
 mod StateLemmas
 mod TextLemmas

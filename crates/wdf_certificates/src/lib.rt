@@ -10,6 +10,7 @@ mod certify_stop;
 mod certifying;
 mod check_stop;
 mod checking;
+pub mod laws;
 mod load_stop;
 mod loading;
 
