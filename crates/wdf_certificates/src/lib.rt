@@ -13,6 +13,8 @@ mod checking;
 pub mod laws;
 mod load_stop;
 mod loading;
+#[cfg(test)]
+mod tests;
 
 pub use certify_stop::CertifyStop;
 pub use certifying::certify;
