@@ -1,4 +1,5 @@
 pub mod Amounts
+pub mod Eliminations
 pub mod Ends
 pub mod Inverses
 pub mod LeftInverses

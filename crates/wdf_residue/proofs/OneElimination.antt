@@ -20,6 +20,7 @@ use Rattle.wdf_residue.proofs.Inverses.{has_inverse}
 use Rattle.wdf_residue.proofs.Totals.{total, total-nought, total-equal, total-congruent, total-join, total-more, total-times}
 use Rattle.wdf_residue.proofs.Splits.{along}
 use Rattle.wdf_residue.proofs.VectorLemmas.{vec, dot-same, entry-lt, entry-less, length-less, less-residues, scaled-row, entry-scaled, along-scaled}
+use Rattle.wdf_residue.proofs.Eliminations.{has_elimination}
 use Rattle.wdf_residue.proofs.LeftInverses.{sees_each, weighed-total}
 
 -- ---- lists
@@ -441,5 +442,6 @@ one_elimination m rows = record {
   rows = first_rows m;
   inverse = one_inverse m rows;
   dependence = one_dependence m;
+  answered = has_elimination m rows;
   either = not_both m;
 }
