@@ -1,5 +1,5 @@
 -- What certificates and their text imply.
-use Rattle.std.specs.Prelude.{◌≡◌, Option, List, ℕ}
+use Rattle.std.specs.Prelude.{◌≡◌, ◌⊎◌, Option, List, ℕ}
 use Rattle.wdf_law.specs.Network.{Network}
 use Rattle.wdf_residue.specs.Elimination.{IsFirstDependence}
 use Rattle.wdf_check.specs.Certificate.{Certificate, HasSquareInverse}
@@ -10,8 +10,15 @@ use Rattle.wdf_cert.specs.CertFormat.{file_format}
 use Rattle.wdf_cert.specs.CertText.{file_text, AreInRange, AreSquare}
 use Rattle.wdf_cert.specs.Making.{IsMade}
 
--- a network has one certificate of its first independent rows, or one first state that depends on those before it, and how
+-- a network has a certificate of its first independent rows, or a first state that depends on those before it
+abbrev pub HasMaking : Network → Type 0
+HasMaking n =
+    ((c : Certificate) × IsMade n c × HasSquareInverse c)
+    ⊎ ((state : ℕ) × (v : List ℕ) × IsFirstDependence (observability n) state v)
+
+-- it has one such certificate, or one such state, which depends in one way
 pub record HasOneMaking (n : Network) : Type 0 where
+  pub answered : HasMaking n
   pub certificate : (c d : Certificate) → IsMade n c → IsMade n d → HasSquareInverse c → HasSquareInverse d → c ≡ d
   pub dependence : (state other : ℕ) (v w : List ℕ) → IsFirstDependence (observability n) state v → IsFirstDependence (observability n) other w
       → (state ≡ other) × (v ≡ w)
