@@ -4,7 +4,7 @@ use Rattle.wdf_law.specs.declared.side.Side.{Side}
 use Rattle.wdf_law.specs.Network.{Network, elements}
 use Rattle.wdf_netlist.specs.declared.form.Form.{Form}
 use Rattle.wdf_quant.specs.declared.port_ratio.PortRatio.{PortRatio}
-use Rattle.wdf_quant.specs.PortBound.{Encloses, walk, wide_of}
+use Rattle.wdf_quant.specs.PortBound.{Encloses, HasLeafNumbers, walk, wide_of}
 use Rattle.wdf_bounds.specs.Plans.{PlanOf}
 use Rattle.wdf_bounds.specs.WordBound.{BoundsMeet, Fits, first_over, word_limit}
 use Rattle.wdf_design.specs.Realising.{IsElementAt}
@@ -18,7 +18,7 @@ HasElements form side n = (element : ℕ) → element < length (elements n) → 
 
 -- the numbers of the network's ports, or the first that is too wide
 abbrev pub GivesRatios : Form → Side → Network → Result (List PortRatio) BoundStop → Type 0
-GivesRatios form side n (Ok ratios) = Encloses n (Ok ratios)
+GivesRatios form side n (Ok ratios) = Encloses n (Ok ratios) × HasLeafNumbers n ratios
 GivesRatios form side n (Err (Bound at name true need limit)) = (at ≡ side) × IsExcessAt form (on_side side (wide_of n)) side name need × (limit ≡ 2 ^ 62)
 GivesRatios form side n (Err (Bound at name false need limit)) = ⊥
 GivesRatios form side n (Err NoMemory) = ⊤

@@ -5,7 +5,7 @@ use Rattle.wdf_law.specs.declared.side.Side.{Side}
 use Rattle.wdf_law.specs.declared.side.Side.TheVariants.{Whole, A, B}
 use Rattle.wdf_law.specs.Network.{Network}
 use Rattle.wdf_netlist.specs.declared.form.Form.{Form}
-use Rattle.wdf_quant.specs.PortBound.{Encloses, walk, wide_of}
+use Rattle.wdf_quant.specs.PortBound.{Encloses, HasLeafNumbers, walk, wide_of}
 use Rattle.wdf_bounds.specs.Plans.{PlanOf}
 use Rattle.wdf_bounds.specs.WordBound.{BoundsMeet, first_over, word_limit}
 use Rattle.wdf_lattice.specs.declared.networks.Networks.{Networks}
@@ -22,6 +22,8 @@ use Rattle.wdf_stages.specs.ElementNames.{name_at}
 -- the numbers of a network's ports, none too wide, and the bounds that follow, none above the limit of a word
 pub record IsBounded (n : Network) (plan : PlanOf) (b : NetworkBounds) : Type 0 where
   pub ratios : Encloses n (Ok b.ratios)
+  -- each element's port is among them
+  pub leaves : HasLeafNumbers n b.ratios
   pub words : BoundsMeet plan (walk n) (Ok b.words)
 
 -- those of each network
