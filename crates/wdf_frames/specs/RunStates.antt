@@ -1,0 +1,20 @@
+-- A run of a wave as its callers see it.
+use Rattle.std.specs.Prelude.{◌≡◌, ℕ}
+use Rattle.wdf_frames.specs.declared.wave_run.WaveRun.{WaveRun}
+use Rattle.wdf_frames.specs.Setting.{Setting}
+use Rattle.wdf_frames.specs.Progress.{IsBegunRound, round_setting}
+
+abbrev pub setting_of : WaveRun → Setting
+setting_of run = round_setting run.round
+
+-- how many output samples were limited so far
+abbrev pub limited_by : WaveRun → ℕ
+limited_by run = run.round.limited
+
+-- it is at rest, and has read and written nothing
+abbrev pub IsFresh : WaveRun → Type 0
+IsFresh run = IsBegunRound run.round (setting_of run)
+
+pub record IsReady (s : Setting) (run : WaveRun) : Type 0 where
+  pub set : setting_of run ≡ s
+  pub fresh : IsFresh run

@@ -1,0 +1,13 @@
+//! The frames of a wave, read, run and written in blocks.
+#![tactic(auto)]
+
+mod block;
+mod frame_stop;
+mod frames;
+mod over;
+mod round;
+mod samples;
+mod wave_run;
+
+pub use frame_stop::FrameStop;
+pub use wave_run::WaveRun;
