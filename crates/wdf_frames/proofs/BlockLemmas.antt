@@ -20,7 +20,7 @@ pub writes_part : (s : Setting) → HasLaws s → (old new : Round) (count : ℕ
 writes_part s laws old new count frames made o x y long few over run part =
     let n = o.frame * s.head.channels in
     let front : take n (take (n + o.channel) (samples_in s frames)) ≡ samples_in s (take (o.frame * read_size s) frames)
-    = take_front n (n + o.channel) (samples_in s frames) (omega arith) ∙ sym (samples_front s laws count o.frame frames long few) in
+    = take_front n (n + o.channel) (samples_in s frames) (omega arith) ∙ sym (samples_front s laws.samples count o.frame frames long few) in
     record {
       held = o.frame;
       few = few;

@@ -5,7 +5,7 @@ use Rattle.std.proofs.Math.Nat.{div-mul-le_self, div-le_of_le-mul, mul-le-mul_ri
 use Rattle.std.proofs.lemmas.List.{take_at, nil_from_length}
 use Rattle.std.proofs.lemmas.List.Elements.{All-take}
 use Rattle.wdf_frames.specs.Setting.{Setting, read_size, samples_in}
-use Rattle.wdf_frames.specs.Progress.{HasLaws}
+use Rattle.wdf_frames.specs.Progress.{HasSampleLaws}
 use Rattle.wdf_frames.proofs.WidthLemmas.{some_byte}
 
 pub whole_within : (samples channels count : ℕ) → 1 ≤ channels → samples ≤ count * channels → samples / channels ≤ count
@@ -33,7 +33,7 @@ whole_small P items samples all small n read less most hold =
 frames_size : (whole channels size : ℕ) → whole * (channels * size) ≡ whole * channels * size
 frames_size whole channels size = omega arith
 
-pub length_samples : (s : Setting) → HasLaws s → (count : ℕ) (frames : List ℕ) → length frames ≡ count * read_size s → length (samples_in s frames) ≡ count * s.head.channels
+pub length_samples : (s : Setting) → HasSampleLaws s → (count : ℕ) (frames : List ℕ) → length frames ≡ count * read_size s → length (samples_in s frames) ≡ count * s.head.channels
 length_samples s laws count frames long =
     let size = s.head.bits / 8 in
     laws.counts frames ∙ (ap (λ (n : ℕ). n / size) (long ∙ frames_size count s.head.channels size) ∙ mul-div_cancel (count * s.head.channels) (some_byte s.head.bits laws.width))
@@ -44,7 +44,7 @@ whole_samples s count frames long =
     let size = s.head.bits / 8 in
     ap (λ (n : ℕ). n % size) (long ∙ frames_size count s.head.channels size) ∙ mul-mod_left (count * s.head.channels) size
 
-pub samples_front : (s : Setting) → HasLaws s → (count whole : ℕ) (frames : List ℕ) → length frames ≡ count * read_size s → whole ≤ count
+pub samples_front : (s : Setting) → HasSampleLaws s → (count whole : ℕ) (frames : List ℕ) → length frames ≡ count * read_size s → whole ≤ count
     → samples_in s (take (whole * read_size s) frames) ≡ take (whole * s.head.channels) (samples_in s frames)
 samples_front s laws count whole frames long less =
     let k = whole * read_size s in
@@ -55,8 +55,8 @@ samples_front s laws count whole frames long less =
     = ap (samples_in s) (sym (take-append-drop k frames)) ∙ laws.read (take k frames) (drop k frames) (whole_samples s whole (take k frames) size) in
     sym (ap (take (whole * s.head.channels)) parts ∙ take_at (samples_in s (take k frames)) (samples_in s (drop k frames)) (whole * s.head.channels) count_is)
 
-pub samples_more : (s : Setting) → HasLaws s → (done : ℕ) (body frames : List ℕ) → length body ≡ done * read_size s → samples_in s (body ++ frames) ≡ samples_in s body ++ samples_in s frames
+pub samples_more : (s : Setting) → HasSampleLaws s → (done : ℕ) (body frames : List ℕ) → length body ≡ done * read_size s → samples_in s (body ++ frames) ≡ samples_in s body ++ samples_in s frames
 samples_more s laws done body frames long = laws.read body frames (whole_samples s done body long)
 
-pub no_samples : (s : Setting) → HasLaws s → samples_in s [] ≡ []
+pub no_samples : (s : Setting) → HasSampleLaws s → samples_in s [] ≡ []
 no_samples s laws = nil_from_length (samples_in s []) (length_samples s laws 0 [] (omega arith) ∙ omega arith)

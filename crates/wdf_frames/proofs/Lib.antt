@@ -1,6 +1,8 @@
 mod BlockLemmas
+mod EndLemmas
 mod FrameLemmas
 mod ProgressLemmas
+mod ResultLemmas
 mod RoundLemmas
 mod SampleLemmas
 mod StopLemmas

@@ -22,10 +22,10 @@ use Rattle.wdf_frames.proofs.FrameLemmas.{length_samples, no_samples, samples_mo
 -- ---- what frames give, and what more frames give
 
 some_sample : (s : Setting) → HasLaws s → 0 < runs_of s * sources_driven s.networks
-some_sample s laws = let a = laws.some_channel in let b = laws.driven in omega arith
+some_sample s laws = let a = laws.samples.some_channel in let b = laws.driven in omega arith
 
 no_waves : (s : Setting) → HasLaws s → solved_waves s [] ≡ []
-no_waves s laws = ap (waves_for s.networks s.plan.guard (runs_of s)) (no_samples s laws) ∙ laws.goes_on.none s.plan.guard (runs_of s) (some_sample s laws)
+no_waves s laws = ap (waves_for s.networks s.plan.guard (runs_of s)) (no_samples s laws.samples) ∙ laws.goes_on.none s.plan.guard (runs_of s) (some_sample s laws)
 
 pub no_data : (s : Setting) → HasLaws s → data_for s [] ≡ []
 no_data s laws = ap (coded s) (no_waves s laws)
@@ -44,7 +44,7 @@ limited_more s xs ys =
 waves_more : (s : Setting) → HasLaws s → (body frames made : List ℕ) (old new : Round) (count : ℕ) → HasRun s body old → (run : RunsFrames s old new frames made count)
     → solved_waves s (body ++ frames) ≡ solved_waves s body ++ run.ran.waves
 waves_more s laws body frames made old new count has run =
-    ap (waves_for s.networks s.plan.guard (runs_of s)) (samples_more s laws old.runner.done body frames has.size)
+    ap (waves_for s.networks s.plan.guard (runs_of s)) (samples_more s laws.samples old.runner.done body frames has.size)
     ∙ laws.goes_on.waves s.plan.guard (runs_of s) (samples_in s body) (samples_in s frames) run.ran.waves (states_of old.runner) (states_of new.runner) (some_sample s laws) has.leads run.ran.on
 
 pub data_more : (s : Setting) → HasLaws s → (body frames made : List ℕ) (old new : Round) (count : ℕ) → HasRun s body old → RunsFrames s old new frames made count
@@ -59,20 +59,20 @@ pub has_begun : (s : Setting) → HasLaws s → (r : Round) → IsBegunRound r s
 has_begun s laws r begun = record {
   set = begun.set;
   size = let none = begun.none_done in rw none (omega arith);
-  within = subst (AreSmall s) (sym (no_samples s laws)) (All-nil (λ (z : ℤ). unsigned_abs z ≤ s.plan.amp));
-  leads = rw (no_samples s laws) (laws.goes_on.begins s.plan.guard (runs_of s) (states_of r.runner) (some_sample s laws) begun.rest);
+  within = subst (AreSmall s) (sym (no_samples s laws.samples)) (All-nil (λ (z : ℤ). unsigned_abs z ≤ s.plan.amp));
+  leads = rw (no_samples s laws.samples) (laws.goes_on.begins s.plan.guard (runs_of s) (states_of r.runner) (some_sample s laws) begun.rest);
   counted = begun.none_limited ∙ sym (ap (limited_among s) (no_waves s laws));
 }
 
 pub has_run_more : (s : Setting) → HasLaws s → (body frames made : List ℕ) (old new : Round) (count : ℕ) → HasRun s body old → RunsFrames s old new frames made count → AreWithin s frames
     → HasRun s (body ++ frames) new
 has_run_more s laws body frames made old new count has run within =
-    let more = samples_more s laws old.runner.done body frames has.size in
+    let more = samples_more s laws.samples old.runner.done body frames has.size in
     let size = run.size in
     let before = has.size in
     let done = run.ran.done in
     let samples : length (samples_in s frames) ≡ count * (runs_of s * sources_driven s.networks)
-    = length_samples s laws count frames run.size ∙ ap (λ (n : ℕ). count * n) laws.driven in
+    = length_samples s laws.samples count frames run.size ∙ ap (λ (n : ℕ). count * n) laws.driven in
     record {
       set = run.ran.set ∙ has.set;
       size = length-append body frames ∙ ((λ i. before i + size i) ∙ (sum old.runner.done count (read_size s) ∙ ap (λ (n : ℕ). n * read_size s) (sym done)));

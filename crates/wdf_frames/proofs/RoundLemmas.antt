@@ -72,10 +72,10 @@ pub finds_over : (s : Setting) → HasLaws s → (small count : ℕ) (frames : L
     → AreSmall s (take small (samples_in s frames)) → (small < count * s.head.channels → s.plan.amp < unsigned_abs (slice_index_or (samples_in s frames) small (pos 0)))
     → IsFound s.head.channels small (samples_in s frames) r → FindsOver s frames r
 finds_over s laws small count frames None long most hold over found =
-    let count_is = length_samples s laws count frames long in
+    let count_is = length_samples s laws.samples count frames long in
     subst (AreSmall s) (take_all small (samples_in s frames) found) hold
 finds_over s laws small count frames (Some o) long most hold over found =
-    let count_is = length_samples s laws count frames long in
+    let count_is = length_samples s laws.samples count frames long in
     let below : small < count * s.head.channels = let inside = found.0 in omega arith in
     let frame : o.frame + 1 ≤ count = one_more o.frame o.channel small s.head.channels count found.1.at below in
     let whole : (o.frame + 1) * read_size s ≤ count * read_size s = mul-le-mul_right (read_size s) frame in
@@ -99,7 +99,7 @@ runs_frames s laws old mid new count whole frames made rest items long less runn
     let fewer : whole * s.head.channels ≤ count * s.head.channels = mul-le-mul_right s.head.channels less in
     let front : take (whole * s.head.channels) items ≡ samples_in s (take (whole * read_size s) frames)
     = sym (take_front (whole * s.head.channels) (count * s.head.channels) items fewer)
-    ∙ (ap (take (whole * s.head.channels)) read ∙ sym (samples_front s laws count whole frames long less)) in
+    ∙ (ap (take (whole * s.head.channels)) read ∙ sym (samples_front s laws.samples count whole frames long less)) in
     record {
       size = length-take-le (whole * read_size s) frames (omega arith);
       ran = record {

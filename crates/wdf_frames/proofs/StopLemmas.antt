@@ -31,7 +31,7 @@ stops_at_header s laws l x y part =
       tail = [];
       taken = omega arith;
       input = Consumes-nil l;
-      within = subst (AreSmall s) (sym (no_samples s laws)) (All-nil (λ (z : ℤ). unsigned_abs z ≤ s.plan.amp));
+      within = subst (AreSmall s) (sym (no_samples s laws.samples)) (All-nil (λ (z : ℤ). unsigned_abs z ≤ s.plan.amp));
       whole = head ++ data_for s [];
       result = result_is s laws [];
       bytes = take part.0 head;
@@ -46,8 +46,8 @@ over_behind : (s : Setting) → HasLaws s → (done inner channel : ℕ) (sample
 over_behind s laws done inner channel sample body frames long within over =
     let channels = s.head.channels in
     let here = inner * channels + channel in
-    let count = length_samples s laws done body long in
-    let more = samples_more s laws done body frames long in
+    let count = length_samples s laws.samples done body long in
+    let more = samples_more s laws.samples done body frames long in
     let place : (done + inner) * channels + channel ≡ length (samples_in s body) + here = place_is done inner channels channel ∙ ap (λ (n : ℕ). n + here) (sym count) in
     let inside = over.whole_frame in
     record {

@@ -1,4 +1,6 @@
+pub mod Ends
 pub mod Found
+pub mod FrameLaws
 pub mod Progress
 pub mod RunStates
 pub mod Setting

@@ -104,14 +104,18 @@ WriteStops s old new count frames written written' WriteFault = WritesPart s old
 WriteStops s old new count frames written written' (Truncated total) = ⊥
 WriteStops s old new count frames written written' ReadFault = ⊥
 
--- ---- what the laws below say of a setting
+-- ---- what the laws of the crates below say of a setting
 
-pub record HasLaws (s : Setting) : Type 0 where
+-- its samples are read from whole frames, one after another
+pub record HasSampleLaws (s : Setting) : Type 0 where
   pub width : IsSampleWidth s.head.bits
   pub some_channel : 1 ≤ s.head.channels
-  pub driven : s.head.channels ≡ runs_of s * sources_driven s.networks
   pub read : SamplesAppend s.head.bits
   pub counts : CountsSamples s.head.bits
+
+pub record HasLaws (s : Setting) : Type 0 where
+  pub samples : HasSampleLaws s
+  pub driven : s.head.channels ≡ runs_of s * sources_driven s.networks
   pub codes : DataAppends s.head.bits
   pub goes_on : GoesOnFromRest s.networks
   pub one_wave : HasOneWave s.networks

@@ -4,6 +4,7 @@
 mod block;
 mod frame_stop;
 mod frames;
+pub mod laws;
 mod over;
 mod round;
 mod samples;

@@ -61,7 +61,7 @@ returns-clause-inside c =
     = subst (λ (n : ℕ). IsFound n small (samples_in s frames) r) channels (subst (λ (l : List ℤ). IsFound new.head.channels small l r) samples c.found.ensures) in
     let whole = c.whole_frames-whole.result in
     let same : frames_before count r ≡ whole
-    = before_is old.head.channels small count (samples_in s frames) r c.rules.ensures.some_channel (length_samples s c.rules.ensures count frames c.requires.frames) c.load-small.ensures.most found
+    = before_is old.head.channels small count (samples_in s frames) r c.rules.ensures.samples.some_channel (length_samples s c.rules.ensures.samples count frames c.requires.frames) c.load-small.ensures.most found
     ∙ sym (c.whole_frames-whole.ensures.value ∙ ap (λ (n : ℕ). small / n) c.from-channels.ensures) in
     subst (λ (n : ℕ). n ≤ count) (sym same) c.whole_frames-whole.ensures.most
 
@@ -84,7 +84,7 @@ returns-clause-run c =
     = subst (λ (n : ℕ). IsFound n small (samples_in s frames) r) channels (subst (λ (l : List ℤ). IsFound new.head.channels small l r) samples c.found.ensures) in
     let whole = c.whole_frames-whole.result in
     let same : frames_before count r ≡ whole
-    = before_is old.head.channels small count (samples_in s frames) r c.rules.ensures.some_channel (length_samples s c.rules.ensures count frames c.requires.frames) c.load-small.ensures.most found
+    = before_is old.head.channels small count (samples_in s frames) r c.rules.ensures.samples.some_channel (length_samples s c.rules.ensures.samples count frames c.requires.frames) c.load-small.ensures.most found
     ∙ sym (c.whole_frames-whole.ensures.value ∙ ap (λ (n : ℕ). small / n) c.from-channels.ensures) in
     let made = c.run_whole.new.made in
     let rest = drop (whole * c.write_size.result) c.args.made.now in
