@@ -1,7 +1,8 @@
 -- A netlist's networks leave one answer to the making of their certificates, since each network has one certificate or one first
 -- obstruction.
-use Rattle.std.proofs.Common.{◌≡◌, ℕ, true, false, List, None, Some, Result, Ok, Err, refl, sym, ap, ◌∙◌}
+use Rattle.std.proofs.Common.{◌≡◌, ℕ, List, None, Some, Result, Ok, Err, refl, sym, ap, ◌∙◌}
 use Rattle.std.specs.Prelude.{slice_get}
+use Rattle.std.proofs.lemmas.Bool.{false≢true}
 use Rattle.std.proofs.lemmas.Option.{same_Some}
 use mathlib.Core.Logic.{inl, inr}
 use Rattle.wdf_law.specs.declared.side.Side.{Side}
@@ -17,9 +18,6 @@ use Rattle.wdf_certificates.specs.declared.certify_stop.CertifyStop.{CertifyStop
 use Rattle.wdf_certificates.specs.declared.certify_stop.CertifyStop.TheVariants.{Unobservable, NoMemory}
 use Rattle.wdf_certificates.specs.Certifying.{IsCertificate, IsObstructed}
 use Rattle.wdf_certificates.specs.CertLaws.{IsCertifyAnswer, HasOneCertifying}
-
-no : false ≡ true → ⊥
-no h = absurd (cc)
 
 -- ---- of one network
 
@@ -70,13 +68,13 @@ data OfLattice (form : Form) (m n : Network) (x : Result (List ℕ) CertifyStop)
 of_ladder : (form : Form) (n : Network) (x : Result (List ℕ) CertifyStop) → IsCertifyAnswer form (Ladder n) x → OfLadder form n x
 of_ladder form n (Ok text) h = record { answer = Ok h.0; makes = h.1; same = ap (λ t. Ok t) h.2 }
 of_ladder form n (Err (Unobservable side name kernel)) h = record { answer = Err (Unobservable side name kernel); makes = h.1; same = refl }
-of_ladder form n (Err NoMemory) h = absurd (no h.0)
+of_ladder form n (Err NoMemory) h = absurd (false≢true h.0)
 
 of_lattice : (form : Form) (m n : Network) (x : Result (List ℕ) CertifyStop) → IsCertifyAnswer form (Lattice m n) x → OfLattice form m n x
 of_lattice form m n (Ok text) h = in_second h.0 (Ok h.1) h.2 h.3 (ap (λ t. Ok t) h.4)
 of_lattice form m n (Err (Unobservable side name kernel)) (rests, inl h) = in_first (Unobservable side name kernel) h refl
 of_lattice form m n (Err (Unobservable side name kernel)) (rests, inr h) = in_second h.1.0 (Err (Unobservable side name kernel)) h.1.1 (h.0, h.2) refl
-of_lattice form m n (Err NoMemory) h = absurd (no h.0)
+of_lattice form m n (Err NoMemory) h = absurd (false≢true h.0)
 
 one_of_lattice : (form : Form) (m n : Network) → HasOneMaking m → HasOneMaking n → (x y : Result (List ℕ) CertifyStop)
     → OfLattice form m n x → OfLattice form m n y → x ≡ y

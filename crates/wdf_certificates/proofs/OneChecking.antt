@@ -1,5 +1,6 @@
 -- Networks and certificates leave one answer to the check, since each network and its certificate leave one.
-use Rattle.std.proofs.Common.{◌≡◌, true, false, None, Some, Result, Ok, Err, refl, sym, ap, ◌∙◌}
+use Rattle.std.proofs.Common.{◌≡◌, None, Some, Result, Ok, Err, refl, sym, ap, ◌∙◌}
+use Rattle.std.proofs.lemmas.Bool.{false≢true}
 use mathlib.Core.Logic.{inl, inr}
 use Rattle.wdf_law.specs.declared.side.Side.{Side}
 use Rattle.wdf_law.specs.declared.side.Side.TheVariants.{Whole, A, B}
@@ -14,9 +15,6 @@ use Rattle.wdf_certificates.specs.declared.check_stop.CheckStop.{CheckStop}
 use Rattle.wdf_certificates.specs.declared.check_stop.CheckStop.TheVariants.{CertWrong, NoMemory}
 use Rattle.wdf_certificates.specs.CertChecking.{IsWrong}
 use Rattle.wdf_certificates.specs.CertLaws.{IsCheckAnswer, HasOneChecking}
-
-no : false ≡ true → ⊥
-no h = absurd (cc)
 
 abbrev Answer : Type 0
 Answer = Result (Unit {0}) CheckStop
@@ -61,17 +59,17 @@ one_side one side n c (Err NoMemory) y h k = absurd h
 of_ladder : (n : Network) (c : Certificate) (x : Answer) → IsCheckAnswer (Ladder n) c None x → IsSideAnswer Whole n c x
 of_ladder n c (Ok u) h = h
 of_ladder n c (Err (CertWrong at fault)) h = h.1
-of_ladder n c (Err NoMemory) h = absurd (no h.0)
+of_ladder n c (Err NoMemory) h = absurd (false≢true h.0)
 
 more : (n : Network) (c d : Certificate) (x : Answer) → IsCheckAnswer (Ladder n) c (Some d) x → x ≡ Err (CertWrong Whole (WrongCount 2 1))
 more n c d (Ok u) h = absurd h
 more n c d (Err (CertWrong at fault)) h = λ i. Err (CertWrong (h.1.0 i) (h.1.1 i))
-more n c d (Err NoMemory) h = absurd (no h.0)
+more n c d (Err NoMemory) h = absurd (false≢true h.0)
 
 fewer : (m n : Network) (c : Certificate) (x : Answer) → IsCheckAnswer (Lattice m n) c None x → x ≡ Err (CertWrong Whole (WrongCount 1 2))
 fewer m n c (Ok u) h = absurd h
 fewer m n c (Err (CertWrong at fault)) h = λ i. Err (CertWrong (h.1.0 i) (h.1.1 i))
-fewer m n c (Err NoMemory) h = absurd (no h.0)
+fewer m n c (Err NoMemory) h = absurd (false≢true h.0)
 
 data OfLattice (m n : Network) (c d : Certificate) (x : Answer) : Type 0 where
   in_first : (fault : CertFault) → IsWrong m c fault → x ≡ Err (CertWrong A fault) → OfLattice m n c d x
@@ -81,7 +79,7 @@ of_lattice : (m n : Network) (c d : Certificate) (x : Answer) → IsCheckAnswer 
 of_lattice m n c d (Ok u) h = in_second h.0 h.1
 of_lattice m n c d (Err (CertWrong at fault)) (rests, inl h) = in_first fault h.1 (ap (λ s. Err (CertWrong s fault)) h.0)
 of_lattice m n c d (Err (CertWrong at fault)) (rests, inr h) = in_second h.1 (h.0, h.2)
-of_lattice m n c d (Err NoMemory) h = absurd (no h.0)
+of_lattice m n c d (Err NoMemory) h = absurd (false≢true h.0)
 
 one_of_lattice : HasOneCheck → (m n : Network) (c d : Certificate) (x y : Answer) → OfLattice m n c d x → OfLattice m n c d y → x ≡ y
 one_of_lattice one m n c d x y (in_first f h p) (in_first g k q) = p ∙ (ap (λ e. Err (CertWrong A e)) (one_fault one m c f g h k) ∙ sym q)

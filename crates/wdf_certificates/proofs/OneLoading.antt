@@ -1,5 +1,6 @@
 -- Told files leave one answer to the load of certificates, since a file has one text and a text one meaning or one fault.
 use Rattle.std.proofs.Common.{◌≡◌, ℕ, true, false, List, Result, Ok, Err, refl, sym, ap, ◌∙◌, subst}
+use Rattle.std.proofs.lemmas.Bool.{false≢true}
 use Rattle.wdf_io.specs.Files.{Files}
 use Rattle.wdf_cert.specs.declared.cert_text_fault.CertTextFault.{CertTextFault}
 use Rattle.wdf_cert.specs.declared.certs.Certs.{Certs}
@@ -14,9 +15,6 @@ use Rattle.wdf_certificates.specs.declared.load_stop.LoadStop.{LoadStop}
 use Rattle.wdf_certificates.specs.declared.load_stop.LoadStop.TheVariants.{Missing, FileTooLarge, CertText, LoadFault, NoMemory}
 use Rattle.wdf_certificates.specs.CertLoading.{load_stop_of, reading_stop_of, text_fault}
 use Rattle.wdf_certificates.specs.CertLaws.{IsLoadAnswer, HasOneLoading}
-
-no : false ≡ true → ⊥
-no h = absurd (cc)
 
 -- ---- the reading of a text
 
@@ -53,8 +51,8 @@ load_of fs word name (Err (Missing at)) h = unfound (files_.Missing at) h refl
 load_of fs word name (Err (FileTooLarge at)) h = unfound (files_.FileTooLarge at) h refl
 load_of fs word name (Err (CertText at true)) h = found h.1.text (Err (text_fault at true)) h.1.file h.1.fault refl
 load_of fs word name (Err (CertText at false)) h = found h.1.text (Err (text_fault at false)) h.1.file h.1.fault refl
-load_of fs word name (Err LoadFault) h = absurd (no h.0)
-load_of fs word name (Err NoMemory) h = absurd (no h.0)
+load_of fs word name (Err LoadFault) h = absurd (false≢true h.0)
+load_of fs word name (Err NoMemory) h = absurd (false≢true h.0)
 
 -- what the load of a file tells
 abbrev text_of : Result (List ℕ) FileStop → List ℕ → List ℕ
