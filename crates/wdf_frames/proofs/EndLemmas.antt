@@ -4,11 +4,11 @@ use Rattle.std.specs.Prelude.{ℤ, pos, unsigned_abs, slice_index_or}
 use Rattle.std.proofs.Math.Nat.{mul-le-mul_right, lt_of_mul-lt-mul_right, div-eq_of_lt, mul-add-div_right}
 use Rattle.std.proofs.lemmas.List.{take_at, get_or-take, length-take}
 use Rattle.wdf_algebra.specs.Samples.{IsSampleWidth}
-use Rattle.wdf_wav.specs.Header.{IsFrameFormat, data_size}
+use Rattle.wdf_wav.specs.Header.{data_size}
 use Rattle.wdf_wav.specs.Laws.{SamplesAppend, CountsSamples}
 use Rattle.wdf_frames.specs.declared.frame_stop.FrameStop.{FrameStop}
 use Rattle.wdf_frames.specs.declared.frame_stop.FrameStop.TheVariants.{Amplitude, Truncated, ReadFault, WriteFault}
-use Rattle.wdf_frames.specs.Setting.{Setting, AreSmall, AreWithin, IsFirstOver, read_size, samples_in}
+use Rattle.wdf_frames.specs.Setting.{Setting, AreSmall, AreWithin, read_size, samples_in}
 use Rattle.wdf_frames.specs.Ends.{EndsWhole, EndsOver, EndsShort, IsEndAnswer, HasOneEnd}
 use Rattle.wdf_frames.specs.Progress.{HasSampleLaws}
 use Rattle.wdf_frames.proofs.FrameLemmas.{length_samples, samples_more, take_front}

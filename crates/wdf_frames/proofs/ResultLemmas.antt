@@ -1,6 +1,6 @@
 -- Frames have one result.
 use Rattle.std.proofs.Common.{◌≡◌, List, ◌++◌, refl, sym, ap, ◌∙◌}
-use Rattle.std.specs.Prelude.{ℕ, ℤ}
+use Rattle.std.specs.Prelude.{ℤ}
 use Rattle.wdf_bounds.specs.Plans.{PlanOf}
 use Rattle.wdf_lattice.specs.declared.networks.Networks.{Networks}
 use Rattle.wdf_lattice.specs.WaveLaws.{HasOneWave}

@@ -1,8 +1,6 @@
 -- What the definitions of `specs/` imply.
-use Rattle.std.specs.Prelude.{◌≡◌, ℕ, List, ◌++◌, length, ◌*◌, ◌<◌}
-use Rattle.wdf_io.specs.Moved.{IsFront}
-use Rattle.wdf_lattice.specs.Sides.{sources_driven}
-use Rattle.wdf_frames.specs.Setting.{Setting, runs_of, read_size}
+use Rattle.std.specs.Prelude.{◌≡◌, ℕ, List}
+use Rattle.wdf_frames.specs.Setting.{Setting}
 use Rattle.wdf_frames.specs.Written.{IsResult}
 
 -- frames have one result

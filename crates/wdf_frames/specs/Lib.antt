@@ -7,4 +7,5 @@ pub mod Setting
 pub mod Shaped
 pub mod Stops
 pub mod WaveRuns
+pub mod WorkedRuns
 pub mod Written

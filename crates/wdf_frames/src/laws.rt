@@ -5,10 +5,17 @@ ghost use Rattle.wdf_wav.specs.declared.head.Head.{Head};
 ghost use Rattle.wdf_frames.specs.Ends.{HasOneEnd};
 ghost use Rattle.wdf_frames.specs.FrameLaws.{HasOneResult};
 ghost use Rattle.wdf_frames.specs.Setting.{setting};
+ghost use Rattle.wdf_frames.specs.WorkedRuns.{AreWorkedRuns};
 
 use wdf_lattice::Networks;
 use wdf_lattice::laws::one_wave;
 use wdf_wav::laws::data_append;
+
+/// Bytes of frames give the output samples that were worked by hand: of one channel and of two, of two
+/// sources in one run, of which one is limited, and of a lattice.
+pub fn worked_runs()
+    ensures { AreWorkedRuns }
+{}
 
 /// The input behind a head of 1 to 8 channels of 8, 16, 24 or 32 bits has one end: all frames are
 /// there and within amp, or a sample of a whole frame is the first over amp, or the input ends after

@@ -8,6 +8,8 @@ pub mod laws;
 mod over;
 mod round;
 mod samples;
+#[cfg(test)]
+mod tests;
 mod wave_run;
 
 pub use frame_stop::FrameStop;

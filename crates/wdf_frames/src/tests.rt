@@ -1,0 +1,471 @@
+ghost use Rattle.std.specs.Prelude.{◌≡◌, ◌≤◌, ◌<◌, IfOk, OnOk};
+ghost use Rattle.wdf_bounds.specs.Plans.{plan_of};
+ghost use Rattle.wdf_bounds.specs.WordBound.{Fits};
+ghost use Rattle.wdf_wav.specs.Header.{IsPcmHead};
+ghost use Rattle.wdf_frames.specs.RunStates.{IsFresh};
+
+use super::*;
+use std::alloc::{AllocError, Global};
+use std::process::Abort;
+use std::test::Fail;
+use wdf_bounds::{Plan, plan_check};
+use wdf_io::{MemSink, MemSource, take_exact};
+use wdf_lattice::Networks;
+use wdf_law::{Kind, Net, Outlet, Tree};
+use wdf_quant::enclose;
+use wdf_wav::{Head, head_bytes};
+
+// ---- networks, each with a source as element 0
+
+fn leaf(elem: u32, kind: Kind) -> Tree {
+    Tree::Leaf {
+        elem,
+        kind,
+        flip: false,
+    }
+}
+
+fn pair(alloc: Global, first: Tree, second: Tree) -> Result<Tree, AllocError> {
+    Ok(Tree::Parallel {
+        m: 8192,
+        l: Box::new(alloc, first)?,
+        r: Box::new(alloc, second)?,
+    })
+}
+
+// A source and a load of the same resistance: each output sample is that of the input.
+fn divider() -> Result<Net, Fail>
+    ensures { IfOk result (λ net. net.k ≡ 14) }
+{
+    let net = Net::new(
+        14,
+        8192,
+        leaf(0, Kind::Src),
+        leaf(1, Kind::Res),
+        Outlet::Load(1),
+    )?;
+    Ok(net)
+}
+
+// A source, and an element and a load in parallel.
+fn tee(alloc: Global, kind: Kind) -> Result<Net, Fail>
+    ensures { IfOk result (λ net. net.k ≡ 14) }
+{
+    let right = pair(alloc, leaf(1, kind), leaf(2, Kind::Res))?;
+    let net = Net::new(14, 5461, leaf(0, Kind::Src), right, Outlet::Load(2))?;
+    Ok(net)
+}
+
+// A branch of a lattice: a source and a resistor.
+fn branch(m: u32) -> Result<Net, Fail>
+    ensures { IfOk result (λ net. net.k ≡ 14) }
+{
+    let net = Net::new(
+        14,
+        m,
+        leaf(0, Kind::Src),
+        leaf(1, Kind::Res),
+        Outlet::Source,
+    )?;
+    Ok(net)
+}
+
+// ---- runs
+
+fn fits(alloc: Global, net: &Net, plan: &Plan) -> Result<(), Fail>
+    requires { plan.now.k ≡ net.now.k }
+    ensures { OnOk result (Fits net.now plan.now) }
+{
+    let ratios = enclose(alloc, net)?;
+    plan_check(alloc, net, &ratios, plan)?;
+    Ok(())
+}
+
+// A plan for 10,000 frames of samples of at most `amp`.
+fn plan(guard: u8, amp: u32, bits: u8) -> Result<Plan, Fail>
+    ensures { IfOk result (λ plan. plan ≡ plan_of 14 guard 0 10000 amp bits) }
+{
+    match Plan::new(14, guard, 0, 10000, amp, bits) {
+        Some(plan) => Ok(plan),
+        None => Err(Fail::new("no plan")),
+    }
+}
+
+fn head(channels: u16, bits: u16, frames: u32) -> Head
+    ensures { result ≡ record { channels = channels; rate = 48000; bits = bits; frames = frames } }
+{
+    Head {
+        channels,
+        rate: 48000,
+        bits,
+        frames,
+    }
+}
+
+fn ladder(alloc: Global, net: Net, plan: &Plan, head: &Head) -> Result<WaveRun, Fail>
+    requires width { plan.now.k ≡ net.k }
+    requires head { IsPcmHead head.now }
+    requires bits { head.now.bits ≡ plan.now.bits }
+    requires frames { head.now.frames ≤ plan.now.frames }
+    ensures { IfOk result IsFresh }
+{
+    fits(alloc, &net, plan)?;
+    let sources = net.source_count();
+    if sources > 1 && usize::from(head.channels) != sources {
+        return Err(Fail::new("other channels"));
+    }
+    let run = WaveRun::new(alloc, Networks::Ladder(net), plan, head)?;
+    Ok(run)
+}
+
+fn lattice(alloc: Global, a: Net, b: Net, plan: &Plan, head: &Head) -> Result<WaveRun, Fail>
+    requires first { plan.now.k ≡ a.k }
+    requires second { plan.now.k ≡ b.k }
+    requires head { IsPcmHead head.now }
+    requires bits { head.now.bits ≡ plan.now.bits }
+    requires frames { head.now.frames ≤ plan.now.frames }
+    ensures { IfOk result IsFresh }
+{
+    fits(alloc, &a, plan)?;
+    fits(alloc, &b, plan)?;
+    if a.source_count() != 1 || b.source_count() != 1 {
+        return Err(Fail::new("other sources"));
+    }
+    let run = WaveRun::new(alloc, Networks::Lattice { a, b }, plan, head)?;
+    Ok(run)
+}
+
+// Some bytes, then zeros, and then others.
+fn bytes(alloc: Global, front: &[u8], zeros: usize, tail: &[u8]) -> Result<Vec<u8>, AllocError> {
+    let mut bytes = front.to_vec(alloc)?;
+    for _ in 0..zeros {
+        bytes.push(0)?;
+    }
+    bytes.extend_from_slice(tail)?;
+    Ok(bytes)
+}
+
+fn calls(alloc: Global, call: Option<u64>) -> Result<Vec<u64>, AllocError> {
+    match call {
+        Some(call) => Ok(vec![in alloc; call]?),
+        None => Ok(Vec::new(alloc)),
+    }
+}
+
+// So many zeros and then `read` are read, in pieces, and the same zeros and then `written` are
+// written behind the header. At most 8 of the bytes that are left in the input are counted.
+#[derive(Clone, Copy)]
+struct Case {
+    piece: usize,
+    zeros: usize,
+    read: &'static [u8],
+    read_fails: Option<u64>,
+    answer: Result<(), FrameStop>,
+    left: usize,
+    limited: u64,
+    written: &'static [u8],
+}
+
+const DONE: Case = Case {
+    piece: 10000,
+    zeros: 0,
+    read: &[],
+    read_fails: None,
+    answer: Ok(()),
+    left: 0,
+    limited: 0,
+    written: &[],
+};
+
+fn expect(
+    rt: &impl Abort,
+    alloc: Global,
+    mut run: WaveRun,
+    written: &Head,
+    case: &Case,
+) -> Result<(), Fail>
+    requires fresh { IsFresh run }
+    requires head { IsPcmHead written.now }
+{
+    let piece = case.piece.max(1);
+    let data = bytes(alloc, &[], case.zeros, case.read)?;
+    let mut input = MemSource::new(data, calls(alloc, case.read_fails)?, piece);
+    let mut out = MemSink::new(alloc, Vec::new(alloc), piece, 40000)?;
+    assert_eq!(rt; run.write(&mut input, &mut out), case.answer);
+    assert_eq!(rt; run.limited(), case.limited);
+    assert_eq!(rt; take_exact(&mut input, &mut [0; 8]), Ok(case.left));
+    let want = bytes(alloc, &head_bytes(written), case.zeros, case.written)?;
+    assert!(rt; out.bytes() == want.as_slice());
+    Ok(())
+}
+
+// A pulse of 16384 in the last frame of the first block, of one channel: the response of a source, a
+// capacitor and a load is 10922, 7281, -2426, worked by hand, and goes on in the second block.
+#[test]
+fn a_response_goes_on_in_the_next_block(rt: HostRuntime) -> Result<(), Fail> {
+    let alloc = rt.alloc();
+    let plan = plan(0, 16384, 16)?;
+    let head = head(1, 16, 4098);
+    let run = ladder(alloc, tee(alloc, Kind::Cap)?, &plan, &head)?;
+    let case = Case {
+        zeros: 8190,
+        read: &[0, 0x40, 0, 0, 0, 0],
+        written: &[0xaa, 0x2a, 0x71, 0x1c, 0x86, 0xf6],
+        ..DONE
+    };
+    expect(&rt, alloc, run, &head, &case)
+}
+
+// The same response in three of five channels, each of which has a state of its own.
+#[test]
+fn channels_run_apart(rt: HostRuntime) -> Result<(), Fail> {
+    let alloc = rt.alloc();
+    let plan = plan(0, 16384, 16)?;
+    let head = head(5, 16, 3);
+    let run = ladder(alloc, tee(alloc, Kind::Cap)?, &plan, &head)?;
+    let case = Case {
+        piece: 1,
+        read: b"\0\x40\0\xc0\0\0\0\0\0\x40\0\0\0\0\0\0\0\0\0\0\0\0\0\0\0\0\0\0\0\0",
+        written: b"\xaa\x2a\x56\xd5\0\0\0\0\xaa\x2a\x71\x1c\x8f\xe3\0\0\0\0\x71\x1c\x86\xf6\x7a\x09\0\0\0\0\x86\xf6",
+        ..DONE
+    };
+    expect(&rt, alloc, run, &head, &case)
+}
+
+// Two channels drive the two sources of one run: 3000 and 6000 give 6000, 3 and -3 give 0, and 32767
+// twice comes to 43687, which is limited. The output has one channel.
+#[test]
+fn sources_are_driven_in_one_run(rt: HostRuntime) -> Result<(), Fail> {
+    let alloc = rt.alloc();
+    let plan = plan(0, 32768, 16)?;
+    let read = head(2, 16, 3);
+    let run = ladder(alloc, tee(alloc, Kind::Src)?, &plan, &read)?;
+    let case = Case {
+        read: &[
+            0xb8, 0x0b, 0x70, 0x17, 3, 0, 0xfd, 0xff, 0xff, 0x7f, 0xff, 0x7f,
+        ],
+        limited: 1,
+        written: &[0x70, 0x17, 0, 0, 0xff, 0x7f],
+        ..DONE
+    };
+    expect(&rt, alloc, run, &head(1, 16, 3), &case)
+}
+
+// Arms of a microohm and a megohm: 1000 gives 999, and -32768 gives -32764.
+#[test]
+fn a_lattice_gives_half_its_difference(rt: HostRuntime) -> Result<(), Fail> {
+    let alloc = rt.alloc();
+    let plan = plan(4, 32768, 16)?;
+    let head = head(1, 16, 2);
+    let run = lattice(alloc, branch(1)?, branch(16383)?, &plan, &head)?;
+    let case = Case {
+        read: &[0xe8, 3, 0, 0x80],
+        written: &[0xe7, 3, 4, 0x80],
+        ..DONE
+    };
+    expect(&rt, alloc, run, &head, &case)
+}
+
+// Data of three bytes has a pad byte behind it; that of the input is not read.
+#[test]
+fn a_pad_byte_follows_odd_data(rt: HostRuntime) -> Result<(), Fail> {
+    let alloc = rt.alloc();
+    let plan = plan(4, 128, 8)?;
+    let head = head(1, 8, 3);
+    let run = ladder(alloc, divider()?, &plan, &head)?;
+    let case = Case {
+        read: &[133, 127, 0, 99],
+        left: 1,
+        written: &[133, 127, 0, 0],
+        ..DONE
+    };
+    expect(&rt, alloc, run, &head, &case)
+}
+
+// One channel of samples of at most 1000 through a divider, which gives what it is given: the frames
+// of the head, and what is read and written.
+static MONO: [(u32, Case); 8] = [
+    // Just a block, and a frame more.
+    (
+        4096,
+        Case {
+            zeros: 8190,
+            read: &[7, 1, 9],
+            left: 1,
+            written: &[7, 1],
+            ..DONE
+        },
+    ),
+    (
+        4097,
+        Case {
+            piece: 1,
+            zeros: 8190,
+            read: &[7, 1, 0xe8, 3, 9],
+            left: 1,
+            written: &[7, 1, 0xe8, 3],
+            ..DONE
+        },
+    ),
+    (
+        0,
+        Case {
+            left: 1,
+            read: &[9],
+            ..DONE
+        },
+    ),
+    // The end of the input before the first frame, in the second block, and within a frame of it.
+    (
+        5,
+        Case {
+            answer: Err(FrameStop::Truncated { frames: 0 }),
+            ..DONE
+        },
+    ),
+    (
+        4099,
+        Case {
+            zeros: 8192,
+            read: &[7, 1],
+            answer: Err(FrameStop::Truncated { frames: 4097 }),
+            written: &[7, 1],
+            ..DONE
+        },
+    ),
+    (
+        4098,
+        Case {
+            zeros: 8192,
+            read: &[7, 1, 9],
+            answer: Err(FrameStop::Truncated { frames: 4097 }),
+            written: &[7, 1],
+            ..DONE
+        },
+    ),
+    // A failing read in the second block: the first is written. In the first: only the header is.
+    (
+        4098,
+        Case {
+            piece: 8192,
+            zeros: 8190,
+            read: &[7, 1, 3, 3],
+            read_fails: Some(1),
+            answer: Err(FrameStop::ReadFault),
+            left: 2,
+            written: &[7, 1],
+            ..DONE
+        },
+    ),
+    (
+        2,
+        Case {
+            piece: 1,
+            read: &[7, 1, 3, 3],
+            read_fails: Some(3),
+            answer: Err(FrameStop::ReadFault),
+            left: 1,
+            ..DONE
+        },
+    ),
+];
+
+#[test]
+fn one_channel_ends_in_each_way(rt: HostRuntime) -> Result<(), Fail> {
+    let alloc = rt.alloc();
+    let plan = plan(4, 1000, 16)?;
+    for (frames, case) in &MONO {
+        if *frames <= 10000 {
+            let head = head(1, 16, *frames);
+            let run = ladder(alloc, divider()?, &plan, &head)?;
+            expect(&rt, alloc, run, &head, case)?;
+        }
+    }
+    Ok(())
+}
+
+// Two channels of samples of at most 1000, in 5000 frames. Of two that are over it the first is told,
+// and the frames before its own are written.
+static STEREO: [Case; 4] = [
+    Case {
+        zeros: 16388,
+        read: b"\xe8\x03\xe9\x03\xe9\x03\0\0",
+        answer: Err(FrameStop::Amplitude {
+            frame: 4097,
+            channel: 1,
+            sample: 1001,
+        }),
+        written: &[],
+        ..DONE
+    },
+    Case {
+        read: b"\x18\xfc\xe8\x03\x17\xfc\xe9\x03",
+        answer: Err(FrameStop::Amplitude {
+            frame: 1,
+            channel: 0,
+            sample: -1001,
+        }),
+        written: &[0x18, 0xfc, 0xe8, 3],
+        ..DONE
+    },
+    Case {
+        zeros: 16384,
+        read: b"\0\x80\0\0",
+        answer: Err(FrameStop::Amplitude {
+            frame: 4096,
+            channel: 0,
+            sample: -32768,
+        }),
+        written: &[],
+        ..DONE
+    },
+    // In a part of a frame it is not looked at.
+    Case {
+        read: b"\x18\xfc\xe8\x03\x17\xfc",
+        answer: Err(FrameStop::Truncated { frames: 1 }),
+        written: &[0x18, 0xfc, 0xe8, 3],
+        ..DONE
+    },
+];
+
+#[test]
+fn the_first_sample_over_amp_ends_a_run(rt: HostRuntime) -> Result<(), Fail> {
+    let alloc = rt.alloc();
+    let plan = plan(4, 1000, 16)?;
+    let head = head(2, 16, 5000);
+    for case in &STEREO {
+        let run = ladder(alloc, divider()?, &plan, &head)?;
+        expect(&rt, alloc, run, &head, case)?;
+    }
+    Ok(())
+}
+
+// The call that fails and the room of an output, and how many bytes it holds then: at the header,
+// at the first block and the second, within the header and the second block, and at the pad byte.
+static OUTPUTS: [(u64, usize, usize); 6] = [
+    (0, 40000, 0),
+    (1, 40000, 44),
+    (2, 40000, 44 + 4096),
+    (9, 20, 20),
+    (9, 44 + 4099, 44 + 4099),
+    (3, 40000, 44 + 4101),
+];
+
+#[test]
+fn an_output_may_fail(rt: HostRuntime) -> Result<(), Fail> {
+    let alloc = rt.alloc();
+    let plan = plan(4, 128, 8)?;
+    let head = head(1, 8, 4101);
+    let data = bytes(alloc, &[128; 4101], 0, &[])?;
+    for (call, room, held) in &OUTPUTS {
+        let mut run = ladder(alloc, divider()?, &plan, &head)?;
+        let mut input = MemSource::new(data.clone()?, Vec::new(alloc), 10000);
+        let mut out = MemSink::new(alloc, vec![in alloc; *call]?, 10000, *room)?;
+        assert_eq!(rt; run.write(&mut input, &mut out), Err(FrameStop::WriteFault));
+        let mut want = head_bytes(&head).to_vec(alloc)?;
+        want.extend_from_slice(&data)?;
+        assert_eq!(rt; out.bytes().len(), *held);
+        assert!(rt; want.starts_with(out.bytes()));
+    }
+    Ok(())
+}
