@@ -1,13 +1,12 @@
-pub mod AnswerLemmas
-pub mod CompleteLemmas
-pub mod DecimalLemmas
-pub mod EqualBytes
-pub mod FrameLemmas
-pub mod FrontLemmas
-pub mod HeadLemmas
-pub mod LineLemmas
-pub mod OrderLemmas
-pub mod StandsLemmas
-pub mod TwoLeaves
-pub mod WaveLemmas
-pub mod WordLemmas
+mod Chains
+mod Handed
+mod StopLemmas
+mod NetworksTrace
+mod CertifyTrace
+mod CheckTrace
+mod EndLemmas
+mod HeadLemmas
+mod RunTrace
+mod StatusLemmas
+mod RefusalLemmas
+mod OneAnswer

@@ -1,24 +1,28 @@
 //! `wdf`: filters audio by the wave digital filter of a netlist, in integers.
 //!
-//! [`run`] is the whole program over any words, files, input and output: its contract says what the
-//! output holds. `main` calls it with the real ones.
+//! [`run`] is the whole program over any words, files, input, output and note: its contract says what
+//! they hold then. `main` calls it with the real ones.
 #![tactic(auto)]
 
-mod circuit;
-mod element_line;
-mod frames;
-mod load;
-mod netlist;
-mod netlist_lines;
-mod number;
-mod opening;
-mod operands;
-mod ratio;
+mod certifying;
+mod certifying_stop;
+mod checking;
+mod checking_stop;
+mod commands;
+mod designed;
+mod designing;
+mod filtering;
+mod filtering_stop;
+mod laws;
+mod networks_stop;
 mod run;
-mod status;
-mod wave_form;
-mod word;
+mod statuses;
 
+use certifying_stop::CertifyingStop;
+use checking_stop::CheckingStop;
+use designed::Designed;
+use filtering_stop::FilteringStop;
+use networks_stop::NetworksStop;
 use std::env;
 use std::io::ErrorKind;
 use std::process::ExitCode;
@@ -47,6 +51,3 @@ fn main(rt: HostRuntime) -> ExitCode {
     let status = run::run(alloc, &words, &mut shelf, &mut input, &mut out, &mut note);
     ExitCode::from(status.code())
 }
-
-#[cfg(test)]
-mod tests;

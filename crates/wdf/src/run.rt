@@ -1,42 +1,51 @@
-ghost use Rattle.std.specs.Prelude.{◌≡◌, ◌≤◌, ◌⊎◌, ℕ, IfOk, OnOk, IfErr, IsErrOf};
-ghost use Rattle.wdf_io.specs.Causes.{Rose};
-ghost use Rattle.wdf.specs.Answer.{WritesLoadWaves, RunStops, RunsWords, AnswerMeets};
-ghost use Rattle.wdf.specs.Circuit.{network_for};
-ghost use Rattle.wdf.specs.Complete.{IsComplete};
-ghost use Rattle.wdf.specs.NetlistText.{IsInRange};
+//! The top call.
 
-use crate::circuit::network;
-use crate::load::load;
-use crate::netlist::Netlist;
-use crate::opening::{filter_wave, open};
-use crate::status::Status;
+ghost use Rattle.std.specs.Prelude.{◌≡◌, ◌≢◌, ◌≤◌, OnOk, IfErr, IsErrOf};
+ghost use Rattle.wdf_io.specs.Causes.{Rose};
+ghost use Rattle.wdf_report.specs.FaultLine.{fault_line_of};
+ghost use Rattle.wdf_stages.specs.Noting.{GainsLine};
+ghost use Rattle.wdf_words.specs.Orders.{HasRanges, NamesFiles, texts};
+ghost use Rattle.wdf.specs.Answer.{DoesOrder, IsDone, Refuses, RefusesOrder};
+ghost use Rattle.wdf.specs.Complete.{HasAll};
+ghost use Rattle.wdf.specs.World.{world};
+
+use crate::commands::{do_certify, do_check, do_run};
+use crate::laws::completeness;
+use crate::statuses::usage_status;
 use std::alloc::Global;
 use wdf_io::{Shelf, Sink, Source};
-use wdf_law::Net;
-use wdf_wav::laws::data_append;
+use wdf_report::{Status, fault_line};
+use wdf_stages::note_line;
+use wdf_words::{Command, Order, read_words};
 
-// Filters the wave on the input by the network of the netlist.
-fn filter<I: Source, O: Sink>(
-    netlist: &Netlist,
-    net: &Net,
+// Does what the words, which mean this order, ask for.
+fn perform<H: Shelf, I: Source, O: Sink>(
+    alloc: Global,
+    words: &[String],
+    order: &Order,
+    shelf: &mut H,
     input: &mut I,
     out: &mut O,
 ) -> Result<(), Status>
-    requires range { IsInRange netlist.now }
-    requires net { net.now ≡ network_for netlist.now }
-    ensures ok { OnOk result (WritesLoadWaves netlist.now (I.left input.old) (I.left input.new) (O.written out.old) (O.written out.new)) }
-    ensures stop { IfErr result (RunStops netlist.now (I.left input.old) (I.left input.new) (O.written out.old) (O.written out.new)) }
-    ensures read { IsErrOf result Status.ReadFault → Rose (I.faults input.old) (I.faults input.new) }
-    ensures write { IsErrOf result Status.WriteFault → Rose (O.faults out.old) (O.faults out.new) }
+    requires ranges { HasRanges order.now }
+    requires files { NamesFiles (texts words.now) order.now }
+    ensures done { OnOk result
+        (DoesOrder order.now.command (world (texts words.now) (H.files shelf.old) (I.left input.old) (I.left input.new) (O.written out.old) (O.written out.new)) order.now) }
+    ensures refused { IfErr result
+        (RefusesOrder order.now.command (world (texts words.now) (H.files shelf.old) (I.left input.old) (I.left input.new) (O.written out.old) (O.written out.new)) order.now) }
+    ensures load_fault { IsErrOf result Status.LoadFault → Rose (H.faults shelf.old) (H.faults shelf.new) }
+    ensures read_fault { IsErrOf result Status.ReadFault → Rose (I.faults input.old) (I.faults input.new) }
+    ensures write_fault { IsErrOf result Status.WriteFault → Rose (O.faults out.old) (O.faults out.new) }
 {
-    data_append(16);
-    let mut frame = [0; 2];
-    let head = open(input, netlist.rate)?;
-    filter_wave(net, &head, &mut frame, input, out)?;
-    Ok(())
+    match order.command {
+        Command::Run => do_run(alloc, words, order, shelf, input, out),
+        Command::Certify => do_certify(alloc, words, order, shelf, out),
+        Command::Check => do_check(alloc, words, order, shelf, out),
+        Command::Report | Command::Soak => Err(Status::Unbuilt { part: 1 }),
+    }
 }
 
-// The run of the words, as far as it comes.
+// Does what the words ask for.
 fn attempt<H: Shelf, I: Source, O: Sink>(
     alloc: Global,
     words: &[String],
@@ -44,28 +53,29 @@ fn attempt<H: Shelf, I: Source, O: Sink>(
     input: &mut I,
     out: &mut O,
 ) -> Result<(), Status>
-    ensures ok { OnOk result (RunsWords (H.files shelf.old) words.now (I.left input.old) (I.left input.new) (O.written out.old) (O.written out.new)) }
-    ensures stop { IfErr result (AnswerMeets (H.files shelf.old) words.now (I.left input.old) (I.left input.new) (O.written out.old) (O.written out.new)) }
-    ensures load { IsErrOf result Status.LoadFault → Rose (H.faults shelf.old) (H.faults shelf.new) }
-    ensures read { IsErrOf result Status.ReadFault → Rose (I.faults input.old) (I.faults input.new) }
-    ensures write { IsErrOf result Status.WriteFault → Rose (O.faults out.old) (O.faults out.new) }
+    ensures done { OnOk result
+        (IsDone (world (texts words.now) (H.files shelf.old) (I.left input.old) (I.left input.new) (O.written out.old) (O.written out.new))) }
+    ensures refused { IfErr result
+        (Refuses (world (texts words.now) (H.files shelf.old) (I.left input.old) (I.left input.new) (O.written out.old) (O.written out.new))) }
+    ensures load_fault { IsErrOf result Status.LoadFault → Rose (H.faults shelf.old) (H.faults shelf.new) }
+    ensures read_fault { IsErrOf result Status.ReadFault → Rose (I.faults input.old) (I.faults input.new) }
+    ensures write_fault { IsErrOf result Status.WriteFault → Rose (O.faults out.old) (O.faults out.new) }
 {
-    let netlist = load(alloc, words, shelf)?;
-    let net = network(&netlist);
-    filter(&netlist, &net, input, out)?;
-    Ok(())
+    match read_words(words) {
+        Ok(order) => perform(alloc, words, &order, shelf, input, out),
+        Err(fault) => Err(usage_status(fault)),
+    }
 }
 
-/// Filters the wave on `input` by the wave digital filter of a netlist, and writes the wave of its
-/// load to `out`.
+/// Does what the words of the command line ask for. `docs/command.md` has the commands and their
+/// operands, and `docs/report.md` the answers.
 ///
-/// The words are `run` and `net=FILE`; the netlist is the file of that name on the shelf. The input
-/// is a WAV of one channel of 16 bits at the netlist's rate.
+/// `run net=FILE` filters the wave on `input` by the wave digital filter of a netlist on the shelf,
+/// and writes the wave of its load to `out`. `certify net=FILE` writes the certificates of the
+/// netlist's networks, and `check net=FILE cert=FILE` writes `accepted` where a file's certificates
+/// certify them; both leave the input as it is. `report` and `soak` are not built yet.
 ///
-/// The answers, in the order of the tests: `Unbuilt` with part 1 for other words; `LoadFault`,
-/// `Missing` and `FileTooLarge` for a file that is not to be had; `Unbuilt` with part 2 for another
-/// netlist; `ReadFault`, or `Unbuilt` with part 3 for another wave; then `WriteFault`, `ReadFault` or
-/// `Truncated` behind the frames that were written; `Done`.
+/// Every answer other than `Done` tries its fault line on the note.
 pub fn run<H: Shelf, I: Source, O: Sink, N: Sink>(
     alloc: Global,
     words: &[String],
@@ -75,26 +85,34 @@ pub fn run<H: Shelf, I: Source, O: Sink, N: Sink>(
     note: &mut N,
 ) -> Status
     // The headline: what stands in the output when all was done.
-    ensures done_writes_the_load_waves { result ≡ Status.Done → RunsWords (H.files shelf.old) words.now (I.left input.old) (I.left input.new) (O.written out.old) (O.written out.new) }
+    ensures done_writes_the_load_waves { result ≡ Status.Done
+        → IsDone (world (texts words.now) (H.files shelf.old) (I.left input.old) (I.left input.new) (O.written out.old) (O.written out.new)) }
 
-    // Every other answer has its cause, and what the output gained.
-    ensures answer { AnswerMeets (H.files shelf.old) words.now (I.left input.old) (I.left input.new) (O.written out.old) (O.written out.new) result }
+    // Every other answer has its cause, and what was read and written then.
+    ensures refused { result ≢ Status.Done
+        → Refuses (world (texts words.now) (H.files shelf.old) (I.left input.old) (I.left input.new) (O.written out.old) (O.written out.new)) result }
+
+    // The note gains the fault line of just this answer, or a front of it where its count rose.
+    ensures note { result ≡ Status.Done → note.new ≡ note.old }
+    ensures fault_line { result ≢ Status.Done
+        → GainsLine (N.written note.old) (N.written note.new) (N.faults note.old) (N.faults note.new) (fault_line_of result) }
 
     // A fault is answered only where the count of that object rose.
     ensures load_fault { result ≡ Status.LoadFault → Rose (H.faults shelf.old) (H.faults shelf.new) }
     ensures read_fault { result ≡ Status.ReadFault → Rose (I.faults input.old) (I.faults input.new) }
     ensures write_fault { result ≡ Status.WriteFault → Rose (O.faults out.old) (O.faults out.new) }
 
-    // Where all is there and no count rose, only want of memory is in the way.
-    ensures complete { IsComplete (H.files shelf.old) words.now (I.left input.old)
+    // Where all is there that the words ask for and no count rose, only want of memory is in the way.
+    ensures complete { HasAll (world (texts words.now) (H.files shelf.old) (I.left input.old) (I.left input.new) (O.written out.old) (O.written out.new))
         → (Rose (H.faults shelf.old) (H.faults shelf.new) → ⊥) → (Rose (I.faults input.old) (I.faults input.new) → ⊥) → (Rose (O.faults out.old) (O.faults out.new) → ⊥)
-        → (result ≡ Status.Done) ⊎ (result ≡ Status.NoMemory) }
-
-    ensures note { note.new ≡ note.old }
+        → result ≢ Status.Done → result ≡ Status.NoMemory }
 {
-    let _ = note;
+    completeness();
     match attempt(alloc, words, shelf, input, out) {
         Ok(()) => Status::Done,
-        Err(status) => status,
+        Err(status) => {
+            note_line(note, fault_line(&status).as_bytes());
+            status
+        }
     }
 }

@@ -1,0 +1,82 @@
+-- From where a command stopped to its row of the table of answers.
+use Rattle.std.proofs.Common.{inl, inr}
+use Rattle.wdf_stages.specs.declared.netlist_stop.NetlistStop.TheVariants as netlists
+use Rattle.wdf_stages.specs.declared.design_stop.DesignStop.TheVariants as designs
+use Rattle.wdf_stages.specs.declared.open_stop.OpenStop.TheVariants as opens
+use Rattle.wdf_stages.specs.declared.bound_stop.BoundStop.TheVariants as bounds
+use Rattle.wdf_frames.specs.declared.frame_stop.FrameStop.TheVariants as frames_
+use Rattle.wdf_certificates.specs.declared.certify_stop.CertifyStop.TheVariants as certifies
+use Rattle.wdf_certificates.specs.declared.load_stop.LoadStop.TheVariants as loads
+use Rattle.wdf_certificates.specs.declared.check_stop.CheckStop.TheVariants as checks
+use Rattle.wdf_words.specs.declared.order.Order.{Order}
+use Rattle.wdf.specs.declared.networks_stop.NetworksStop.TheVariants.{Netlist, Design}
+use Rattle.wdf.specs.declared.certifying_stop.CertifyingStop.{CertifyingStop}
+use Rattle.wdf.specs.declared.certifying_stop.CertifyingStop.TheVariants as certifying
+use Rattle.wdf.specs.declared.checking_stop.CheckingStop.{CheckingStop}
+use Rattle.wdf.specs.declared.checking_stop.CheckingStop.TheVariants as checking
+use Rattle.wdf.specs.declared.filtering_stop.FilteringStop.{FilteringStop}
+use Rattle.wdf.specs.declared.filtering_stop.FilteringStop.TheVariants as filtering
+use Rattle.wdf.specs.World.{World}
+use Rattle.wdf.specs.Statuses.{status_of_certifying, status_of_checking, status_of_filtering}
+use Rattle.wdf.specs.CertifyAnswer.{CertifyStops, RefusesCertify}
+use Rattle.wdf.specs.CheckAnswer.{CheckStops, RefusesCheck}
+use Rattle.wdf.specs.RunAnswer.{RunStops, RefusesRun}
+
+-- ---- `certify`
+
+pub certify_row : (w : World) (o : Order) (stop : CertifyingStop) → CertifyStops w o stop → RefusesCertify w o (status_of_certifying stop)
+certify_row w o (certifying.Networks (Netlist (netlists.Missing word))) h = h
+certify_row w o (certifying.Networks (Netlist (netlists.FileTooLarge word))) h = h
+certify_row w o (certifying.Networks (Netlist (netlists.NetText fault))) h = h
+certify_row w o (certifying.Networks (Netlist netlists.LoadFault)) h = h
+certify_row w o (certifying.Networks (Netlist netlists.NoMemory)) h = inl (inl h)
+certify_row w o (certifying.Networks (Design (designs.NotSeriesParallel side element core))) h = h
+certify_row w o (certifying.Networks (Design (designs.PortRange side element low))) h = h
+certify_row w o (certifying.Networks (Design designs.NoMemory)) h = inl (inr h)
+certify_row w o (certifying.Certify (certifies.Unobservable side element kernel)) h = h
+certify_row w o (certifying.Certify certifies.NoMemory) h = inr h
+certify_row w o certifying.Write h = h
+
+-- ---- `check`
+
+pub check_row : (w : World) (o : Order) (stop : CheckingStop) → CheckStops w o stop → RefusesCheck w o (status_of_checking stop)
+check_row w o (checking.Networks (Netlist (netlists.Missing word))) h = inl h
+check_row w o (checking.Networks (Netlist (netlists.FileTooLarge word))) h = inl h
+check_row w o (checking.Networks (Netlist (netlists.NetText fault))) h = h
+check_row w o (checking.Networks (Netlist netlists.LoadFault)) h = inl h
+check_row w o (checking.Networks (Netlist netlists.NoMemory)) h = inl (inl h)
+check_row w o (checking.Networks (Design (designs.NotSeriesParallel side element core))) h = h
+check_row w o (checking.Networks (Design (designs.PortRange side element low))) h = h
+check_row w o (checking.Networks (Design designs.NoMemory)) h = inl (inr h)
+check_row w o (checking.Load (loads.Missing word)) h = inr h
+check_row w o (checking.Load (loads.FileTooLarge word)) h = inr h
+check_row w o (checking.Load (loads.CertText at range)) h = h
+check_row w o (checking.Load loads.LoadFault) h = inr h
+check_row w o (checking.Load loads.NoMemory) h = inr (inl h)
+check_row w o (checking.Check (checks.CertWrong side fault)) h = h
+check_row w o (checking.Check checks.NoMemory) h = inr (inr h)
+check_row w o checking.Write h = h
+
+-- ---- `run`
+
+pub run_row : (w : World) (o : Order) (stop : FilteringStop) → RunStops w o stop → RefusesRun w o (status_of_filtering stop)
+run_row w o (filtering.Networks (Netlist (netlists.Missing word))) h = h
+run_row w o (filtering.Networks (Netlist (netlists.FileTooLarge word))) h = h
+run_row w o (filtering.Networks (Netlist (netlists.NetText fault))) h = h
+run_row w o (filtering.Networks (Netlist netlists.LoadFault)) h = h
+run_row w o (filtering.Networks (Netlist netlists.NoMemory)) h = inl (inl h)
+run_row w o (filtering.Networks (Design (designs.NotSeriesParallel side element core))) h = h
+run_row w o (filtering.Networks (Design (designs.PortRange side element low))) h = h
+run_row w o (filtering.Networks (Design designs.NoMemory)) h = inl (inr h)
+run_row w o (filtering.Open (opens.BadWave kind at)) h = h
+run_row w o (filtering.Open (opens.RateMismatch netlist wave)) h = h
+run_row w o (filtering.Open (opens.ChannelCount have want)) h = h
+run_row w o (filtering.Open (opens.TooLong frames limit)) h = h
+run_row w o (filtering.Open opens.ReadFault) h = inl h
+run_row w o (filtering.Bound (bounds.Bound side element ratio need limit)) h = h
+run_row w o (filtering.Bound bounds.NoMemory) h = inr (inl h)
+run_row w o filtering.NoMemory h = inr (inr h)
+run_row w o (filtering.Frame (frames_.Amplitude frame channel sample)) h = h
+run_row w o (filtering.Frame (frames_.Truncated frames)) h = h
+run_row w o (filtering.Frame frames_.ReadFault) h = inr h
+run_row w o (filtering.Frame frames_.WriteFault) h = h

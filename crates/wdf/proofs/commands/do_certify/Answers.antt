@@ -1,0 +1,11 @@
+use Rattle.std.proofs.Common.{sym, subst}
+use Rattle.wdf_words.specs.Orders.{texts}
+use Rattle.wdf.specs.CertifyAnswer.{RefusesCertify}
+use Rattle.wdf.specs.World.{world}
+use Rattle.wdf.proofs.StopLemmas.{certify_row}
+use Rattle.wdf.proofs.commands.do_certify.Goals as goal
+
+pub returns-in-Err-clause-refused : goal.returns-in-Err-clause-refused
+returns-in-Err-clause-refused g c left =
+    let w = world (texts c.args.words.now) (g.H.Shelf.files c.args.shelf.now) left left (g.O.Sink.written c.args.out.now) (g.O.Sink.written c.certify_words.new.out) in
+    subst (RefusesCertify w c.args.order.now) (sym c.from.ensures) (certify_row w c.args.order.now c.in-Err.stop (c.in-Err.ensures.refused left))

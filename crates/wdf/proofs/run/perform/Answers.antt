@@ -1,0 +1,34 @@
+use Rattle.std.proofs.Common.{sym, subst}
+use Rattle.std.specs.Prelude.{IfErr}
+use Rattle.wdf_words.specs.declared.command.Command.{Command}
+use Rattle.wdf_words.specs.Orders.{texts}
+use Rattle.wdf.specs.Answer.{RefusesOrder}
+use Rattle.wdf.specs.CertifyAnswer.{RefusesCertify}
+use Rattle.wdf.specs.CheckAnswer.{RefusesCheck}
+use Rattle.wdf.specs.World.{world}
+use Rattle.wdf.proofs.run.perform.Goals as goal
+
+pub returns-in-Certify-clause-refused : goal.returns-in-Certify-clause-refused
+returns-in-Certify-clause-refused g c =
+    let left = g.I.Source.left c.args.input.now in
+    let w = world (texts c.args.words.now) (g.H.Shelf.files c.args.shelf.now) left left (g.O.Sink.written c.args.out.now) (g.O.Sink.written c.do_certify.new.out) in
+    subst (λ (asked : Command). IfErr c.do_certify.result (RefusesOrder asked w c.args.order.now)) (sym c.in-Certify.is) (c.do_certify.ensures.refused left)
+
+-- the input is not read
+pub returns-in-Certify-clause-read_fault : goal.returns-in-Certify-clause-read_fault
+returns-in-Certify-clause-read_fault g c e =
+    let left = g.I.Source.left c.args.input.now in
+    let w = world (texts c.args.words.now) (g.H.Shelf.files c.args.shelf.now) left left (g.O.Sink.written c.args.out.now) (g.O.Sink.written c.do_certify.new.out) in
+    absurd (subst (λ r. IfErr r (RefusesCertify w c.args.order.now)) e (c.do_certify.ensures.refused left))
+
+pub returns-in-Check-clause-refused : goal.returns-in-Check-clause-refused
+returns-in-Check-clause-refused g c =
+    let left = g.I.Source.left c.args.input.now in
+    let w = world (texts c.args.words.now) (g.H.Shelf.files c.args.shelf.now) left left (g.O.Sink.written c.args.out.now) (g.O.Sink.written c.do_check.new.out) in
+    subst (λ (asked : Command). IfErr c.do_check.result (RefusesOrder asked w c.args.order.now)) (sym c.in-Check.is) (c.do_check.ensures.refused left)
+
+pub returns-in-Check-clause-read_fault : goal.returns-in-Check-clause-read_fault
+returns-in-Check-clause-read_fault g c e =
+    let left = g.I.Source.left c.args.input.now in
+    let w = world (texts c.args.words.now) (g.H.Shelf.files c.args.shelf.now) left left (g.O.Sink.written c.args.out.now) (g.O.Sink.written c.do_check.new.out) in
+    absurd (subst (λ r. IfErr r (RefusesCheck w c.args.order.now)) e (c.do_check.ensures.refused left))

@@ -1,0 +1,50 @@
+-- What holds of the runs of a wave that was filtered, besides what was written: of each run of each network, from rest,
+-- on the samples that were read. Kirchhoff's laws before each truncation are part of every step of such a run.
+use Rattle.std.specs.Prelude.{◌≡◌, ℕ, ◌<◌, ℤ, List, Some, Ok}
+use Rattle.wdf_law.specs.declared.side.Side.{Side}
+use Rattle.wdf_law.specs.Network.{Network}
+use Rattle.wdf_law.specs.Step.{Frame}
+use Rattle.wdf_law.specs.Run.{IsRun, at_rest}
+use Rattle.wdf_law.specs.Laws.{IsRunKept}
+use Rattle.wdf_bounds.specs.HeldWords.{AreFramesWithin}
+use Rattle.wdf_bounds.specs.WordBound.{Fits}
+use Rattle.wdf_lattice.specs.Sides.{network_at}
+use Rattle.wdf_lattice.specs.Waves.{frames_of, inputs_for}
+use Rattle.wdf_frames.specs.Setting.{Setting, runs_of, samples_in}
+use Rattle.wdf_words.specs.declared.command.Command.TheVariants.{Run}
+use Rattle.wdf_words.specs.declared.order.Order.{Order}
+use Rattle.wdf_words.specs.Orders.{order_of}
+use Rattle.wdf.specs.World.{World}
+use Rattle.wdf.specs.RunAnswer.{DoneRun, setting_for}
+
+-- ---- the runs on the samples of a body of bytes
+
+-- what a run's samples of a side send into its network, frame after frame
+abbrev pub inputs_on : Setting → List ℕ → (run : ℕ) → Network → List (ℕ → ℤ)
+inputs_on s body run n = inputs_for s.networks s.plan.guard run n (frames_of s.networks (runs_of s) (samples_in s body))
+
+-- a fact of every run, by its network, its input and its steps
+abbrev pub OfEachRun : Setting → List ℕ → (fact : Network → List (ℕ → ℤ) → List Frame → Type 0) → Type 0
+OfEachRun s body fact = (side : Side) (n : Network) → network_at s.networks side ≡ Some n → (run : ℕ) → run < runs_of s
+    → (steps : List Frame) → IsRun n (at_rest n) (inputs_on s body run n) steps → fact n (inputs_on s body run n) steps
+
+-- after each frame, what is stored and what was absorbed so far is at most what the sources sent in so far
+abbrev pub KeepEnergy : Setting → List ℕ → Type 0
+KeepEnergy s body = OfEachRun s body (λ n es ss. IsRunKept n 0 0 es ss)
+
+-- the plan fits each network, and every word of every frame is within its port's bound
+abbrev pub KeepWords : Setting → List ℕ → Type 0
+KeepWords s body = OfEachRun s body (λ n es ss. Fits n s.plan × AreFramesWithin n s.plan ss)
+
+-- ---- the run that was done
+
+-- the words ask for a run, it was done, and this holds of what it read
+pub record HasRun (w : World) (fact : Setting → List ℕ → Type 0) : Type 0 where
+  pub order : Order
+  pub asked : order_of w.words ≡ Ok order
+  pub done : DoneRun w order
+  pub holds : fact (setting_for order done.prepared.opened.design done.prepared.opened.head) done.writes.body
+
+-- the words ask for a run
+abbrev pub AsksRun : World → Type 0
+AsksRun w = (o : Order) × (order_of w.words ≡ Ok o) × (o.command ≡ Run)

@@ -1,0 +1,90 @@
+//! The answers of the commands.
+
+ghost use Rattle.std.specs.Prelude.{◌≡◌, ◌≤◌, List, ℕ, OnOk, IfErr, IsErrOf};
+ghost use Rattle.std.specs.declared.option.Option.{Option};
+ghost use Rattle.wdf_io.specs.Causes.{Rose};
+ghost use Rattle.wdf_words.specs.Orders.{HasRanges, IsFileNamed, texts};
+ghost use Rattle.wdf.specs.CertifyAnswer.{DoneCertify, RefusesCertify};
+ghost use Rattle.wdf.specs.CheckAnswer.{DoneCheck, RefusesCheck};
+ghost use Rattle.wdf.specs.RunAnswer.{DoneRun, RefusesRun};
+ghost use Rattle.wdf.specs.World.{world};
+
+use crate::certifying::certify_words;
+use crate::checking::check_words;
+use crate::filtering::filter_words;
+use std::alloc::Global;
+use wdf_io::{Shelf, Sink, Source};
+use wdf_report::Status;
+use wdf_words::Order;
+
+/// Does the command `run`.
+pub fn do_run<H: Shelf, I: Source, O: Sink>(
+    alloc: Global,
+    words: &[String],
+    order: &Order,
+    shelf: &mut H,
+    input: &mut I,
+    out: &mut O,
+) -> Result<(), Status>
+    requires ranges { HasRanges order.now }
+    requires named { IsFileNamed (texts words.now) order.now.net }
+    ensures done { OnOk result
+        (DoneRun (world (texts words.now) (H.files shelf.old) (I.left input.old) (I.left input.new) (O.written out.old) (O.written out.new)) order.now) }
+    ensures refused { IfErr result
+        (RefusesRun (world (texts words.now) (H.files shelf.old) (I.left input.old) (I.left input.new) (O.written out.old) (O.written out.new)) order.now) }
+    ensures load_fault { IsErrOf result Status.LoadFault → Rose (H.faults shelf.old) (H.faults shelf.new) }
+    ensures read_fault { IsErrOf result Status.ReadFault → Rose (I.faults input.old) (I.faults input.new) }
+    ensures write_fault { IsErrOf result Status.WriteFault → Rose (O.faults out.old) (O.faults out.new) }
+{
+    match filter_words(alloc, words, order, shelf, input, out) {
+        Ok(()) => Ok(()),
+        Err(stop) => Err(Status::from(stop)),
+    }
+}
+
+/// Does the command `certify`.
+pub fn do_certify<H: Shelf, O: Sink>(
+    alloc: Global,
+    words: &[String],
+    order: &Order,
+    shelf: &mut H,
+    out: &mut O,
+) -> Result<(), Status>
+    requires ranges { HasRanges order.now }
+    requires named { IsFileNamed (texts words.now) order.now.net }
+    ensures done { (left : Option (List ℕ)) → OnOk result
+        (DoneCertify (world (texts words.now) (H.files shelf.old) left left (O.written out.old) (O.written out.new)) order.now) }
+    ensures refused { (left : Option (List ℕ)) → IfErr result
+        (RefusesCertify (world (texts words.now) (H.files shelf.old) left left (O.written out.old) (O.written out.new)) order.now) }
+    ensures load_fault { IsErrOf result Status.LoadFault → Rose (H.faults shelf.old) (H.faults shelf.new) }
+    ensures write_fault { IsErrOf result Status.WriteFault → Rose (O.faults out.old) (O.faults out.new) }
+{
+    match certify_words(alloc, words, order, shelf, out) {
+        Ok(()) => Ok(()),
+        Err(stop) => Err(Status::from(stop)),
+    }
+}
+
+/// Does the command `check`.
+pub fn do_check<H: Shelf, O: Sink>(
+    alloc: Global,
+    words: &[String],
+    order: &Order,
+    shelf: &mut H,
+    out: &mut O,
+) -> Result<(), Status>
+    requires ranges { HasRanges order.now }
+    requires named { IsFileNamed (texts words.now) order.now.net }
+    requires cert_named { IsFileNamed (texts words.now) order.now.cert }
+    ensures done { (left : Option (List ℕ)) → OnOk result
+        (DoneCheck (world (texts words.now) (H.files shelf.old) left left (O.written out.old) (O.written out.new)) order.now) }
+    ensures refused { (left : Option (List ℕ)) → IfErr result
+        (RefusesCheck (world (texts words.now) (H.files shelf.old) left left (O.written out.old) (O.written out.new)) order.now) }
+    ensures load_fault { IsErrOf result Status.LoadFault → Rose (H.faults shelf.old) (H.faults shelf.new) }
+    ensures write_fault { IsErrOf result Status.WriteFault → Rose (O.faults out.old) (O.faults out.new) }
+{
+    match check_words(alloc, words, order, shelf, out) {
+        Ok(()) => Ok(()),
+        Err(stop) => Err(Status::from(stop)),
+    }
+}
