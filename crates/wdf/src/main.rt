@@ -17,6 +17,8 @@ mod laws;
 mod networks_stop;
 mod run;
 mod statuses;
+#[cfg(test)]
+mod tests;
 
 use certifying_stop::CertifyingStop;
 use checking_stop::CheckingStop;
