@@ -21,12 +21,12 @@ pub struct WaveRun {
 }
 
 impl WaveRun {
-    ghost use Rattle.std.specs.Prelude.{◌≡◌, ◌*◌, ◌<◌, ◌≤◌, IfOk, OnOk, IfErr, IsErrOf};
+    ghost use Rattle.std.specs.Prelude.{◌≡◌, ◌<◌, ◌≤◌, IfOk, OnOk, IfErr, IsErrOf};
     ghost use Rattle.wdf_io.specs.Causes.{Rose};
     ghost use Rattle.wdf_lattice.specs.Sides.{sources_driven, run_count};
     ghost use Rattle.wdf_lattice.specs.Runners.{FitsEach, DriveAll};
-    ghost use Rattle.wdf_wav.specs.Header.{IsPcmHead, data_size, pad_size};
-    ghost use Rattle.wdf_frames.specs.Setting.{setting, read_size, write_size, written_head};
+    ghost use Rattle.wdf_wav.specs.Header.{IsPcmHead};
+    ghost use Rattle.wdf_frames.specs.Setting.{setting};
     ghost use Rattle.wdf_frames.specs.Written.{CountsLimited};
     ghost use Rattle.wdf_frames.specs.WaveRuns.{WritesWave};
     ghost use Rattle.wdf_frames.specs.Stops.{FrameStops};
