@@ -4,9 +4,11 @@ mod StopLemmas
 mod NetworksTrace
 mod CertifyTrace
 mod CheckTrace
+mod DoneLemmas
 mod EndLemmas
 mod HeadLemmas
 mod RunTrace
 mod StatusLemmas
 mod RefusalLemmas
+mod KeptLemmas
 mod OneAnswer

@@ -3,6 +3,7 @@ pub mod AnswerLaws
 pub mod CertifyAnswer
 pub mod CheckAnswer
 pub mod Complete
+pub mod Filtered
 pub mod NetworksAnswer
 pub mod RunAnswer
 pub mod Runs

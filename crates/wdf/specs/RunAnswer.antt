@@ -23,6 +23,7 @@ use Rattle.wdf_report.specs.declared.status.Status.TheVariants.{Bound, BadWave, 
 use Rattle.wdf.specs.declared.designed.Designed.{Designed}
 use Rattle.wdf.specs.declared.filtering_stop.FilteringStop.{FilteringStop}
 use Rattle.wdf.specs.declared.filtering_stop.FilteringStop.TheVariants as stops
+use Rattle.wdf.specs.Runs.{KeepEnergy, KeepWords}
 use Rattle.wdf.specs.World.{World, KeepsOutput}
 use Rattle.wdf.specs.NetworksAnswer.{HasNetworks, AtNetworks, RefusesNetworks}
 
@@ -79,11 +80,14 @@ pub record AtFrames (w : World) (o : Order) (stop : FrameStop) : Type 0 where
   pub prepared : Prepared w o between
   pub stopped : FrameStops (setting_for o prepared.opened.design prepared.opened.head) between w.left' w.written w.written' stop
 
--- nowhere: the output gained the wave of the load waves
+-- nowhere: the output gained the wave of the load waves, and in every run on the frames that were read no energy was
+-- gained and every word kept its bound
 pub record DoneRun (w : World) (o : Order) : Type 0 where
   pub between : Option (List ℕ)
   pub prepared : Prepared w o between
   pub writes : WritesWave (setting_for o prepared.opened.design prepared.opened.head) between w.left' w.written w.written'
+  pub energy : KeepEnergy (setting_for o prepared.opened.design prepared.opened.head) writes.body
+  pub words : KeepWords (setting_for o prepared.opened.design prepared.opened.head) writes.body
 
 -- by the stages' stops
 abbrev pub RunStops : World → Order → FilteringStop → Type 0

@@ -1,21 +1,19 @@
 -- What holds of the runs of a wave that was filtered, besides what was written: of each run of each network, from rest,
 -- on the samples that were read. Kirchhoff's laws before each truncation are part of every step of such a run.
-use Rattle.std.specs.Prelude.{◌≡◌, ℕ, ◌<◌, ℤ, List, Some, Ok}
+use Rattle.std.specs.Prelude.{◌≡◌, ℕ, ◌<◌, ℤ, List, length, Some}
 use Rattle.wdf_law.specs.declared.side.Side.{Side}
 use Rattle.wdf_law.specs.Network.{Network}
 use Rattle.wdf_law.specs.Step.{Frame}
 use Rattle.wdf_law.specs.Run.{IsRun, at_rest}
-use Rattle.wdf_law.specs.Laws.{IsRunKept}
-use Rattle.wdf_bounds.specs.HeldWords.{AreFramesWithin}
+use Rattle.wdf_law.specs.Laws.{IsRunKept, KeepsEnergy}
+use Rattle.wdf_bounds.specs.Plans.{PlanOf}
+use Rattle.wdf_bounds.specs.HeldWords.{AreFramesWithin, HoldsWords}
 use Rattle.wdf_bounds.specs.WordBound.{Fits}
+use Rattle.wdf_lattice.specs.declared.networks.Networks.{Networks}
 use Rattle.wdf_lattice.specs.Sides.{network_at}
 use Rattle.wdf_lattice.specs.Waves.{frames_of, inputs_for}
-use Rattle.wdf_frames.specs.Setting.{Setting, runs_of, samples_in}
-use Rattle.wdf_words.specs.declared.command.Command.TheVariants.{Run}
-use Rattle.wdf_words.specs.declared.order.Order.{Order}
-use Rattle.wdf_words.specs.Orders.{order_of}
-use Rattle.wdf.specs.World.{World}
-use Rattle.wdf.specs.RunAnswer.{DoneRun, setting_for}
+use Rattle.wdf_wav.specs.Header.{data_size}
+use Rattle.wdf_frames.specs.Setting.{Setting, runs_of, samples_in, AreWithin}
 
 -- ---- the runs on the samples of a body of bytes
 
@@ -36,15 +34,18 @@ KeepEnergy s body = OfEachRun s body (λ n es ss. IsRunKept n 0 0 es ss)
 abbrev pub KeepWords : Setting → List ℕ → Type 0
 KeepWords s body = OfEachRun s body (λ n es ss. Fits n s.plan × AreFramesWithin n s.plan ss)
 
--- ---- the run that was done
+-- ---- the laws of the networks that these follow from
 
--- the words ask for a run, it was done, and this holds of what it read
-pub record HasRun (w : World) (fact : Setting → List ℕ → Type 0) : Type 0 where
-  pub order : Order
-  pub asked : order_of w.words ≡ Ok order
-  pub done : DoneRun w order
-  pub holds : fact (setting_for order done.prepared.opened.design done.prepared.opened.head) done.writes.body
+abbrev pub OfEach : Networks → (Network → Type 0) → Type 0
+OfEach ns law = (side : Side) (n : Network) → network_at ns side ≡ Some n → law n
 
--- the words ask for a run
-abbrev pub AsksRun : World → Type 0
-AsksRun w = (o : Order) × (order_of w.words ≡ Ok o) × (o.command ≡ Run)
+abbrev pub KeepsEach : Networks → Type 0
+KeepsEach ns = OfEach ns KeepsEnergy
+
+abbrev pub HoldsEach : Networks → PlanOf → Type 0
+HoldsEach ns plan = OfEach ns (λ n. Fits n plan × HoldsWords n plan)
+
+-- so both hold of every body that a run of this setting reads
+pub record KeepsRuns (s : Setting) : Type 0 where
+  pub energy : (body : List ℕ) → KeepEnergy s body
+  pub words : (body : List ℕ) → length body ≡ data_size s.head → AreWithin s body → KeepWords s body

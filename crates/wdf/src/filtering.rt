@@ -10,6 +10,7 @@ ghost use Rattle.wdf.specs.RunAnswer.{DoneRun, RunStops};
 ghost use Rattle.wdf.specs.World.{world};
 
 use crate::designing::design_words;
+use crate::keeping::run_laws;
 use crate::{Designed, FilteringStop, NetworksStop};
 use std::alloc::Global;
 use wdf_frames::WaveRun;
@@ -49,6 +50,7 @@ pub fn filter_words<H: Shelf, I: Source, O: Sink>(
     let head = open_wave(input, &netlist, order.frames)?;
     let plan = order.plan(head.bits as u8);
     bound_words(alloc, &netlist, &networks, &plan)?;
+    run_laws(&networks, &plan, &head);
     let mut wave_run = WaveRun::new(alloc, networks, &plan, &head)?;
     wave_run.write(input, out)?;
     Ok(())

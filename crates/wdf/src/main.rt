@@ -13,6 +13,7 @@ mod designed;
 mod designing;
 mod filtering;
 mod filtering_stop;
+mod keeping;
 mod laws;
 mod networks_stop;
 mod run;

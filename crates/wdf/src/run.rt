@@ -7,6 +7,8 @@ ghost use Rattle.wdf_stages.specs.Noting.{GainsLine};
 ghost use Rattle.wdf_words.specs.Orders.{HasRanges, NamesFiles, texts};
 ghost use Rattle.wdf.specs.Answer.{DoesOrder, IsDone, Refuses, RefusesOrder};
 ghost use Rattle.wdf.specs.Complete.{HasAll};
+ghost use Rattle.wdf.specs.Filtered.{AsksRun, HasRun};
+ghost use Rattle.wdf.specs.Runs.{KeepEnergy, KeepWords};
 ghost use Rattle.wdf.specs.World.{world};
 
 use crate::commands::{do_certify, do_check, do_run};
@@ -76,6 +78,7 @@ fn attempt<H: Shelf, I: Source, O: Sink>(
 /// certify them; both leave the input as it is. `report` and `soak` are not built yet.
 ///
 /// Every answer other than `Done` tries its fault line on the note.
+#[tactic(auto, using(crate::proofs::DoneLemmas::kept_energy, crate::proofs::DoneLemmas::kept_words))]
 pub fn run<H: Shelf, I: Source, O: Sink, N: Sink>(
     alloc: Global,
     words: &[String],
@@ -87,6 +90,15 @@ pub fn run<H: Shelf, I: Source, O: Sink, N: Sink>(
     // The headline: what stands in the output when all was done.
     ensures done_writes_the_load_waves { result ≡ Status.Done
         → IsDone (world (texts words.now) (H.files shelf.old) (I.left input.old) (I.left input.new) (O.written out.old) (O.written out.new)) }
+
+    // In every run that it made, after each frame, the energy that is stored and was absorbed is at
+    // most what the sources sent in.
+    ensures energy { result ≡ Status.Done → AsksRun (world (texts words.now) (H.files shelf.old) (I.left input.old) (I.left input.new) (O.written out.old) (O.written out.new))
+        → HasRun (world (texts words.now) (H.files shelf.old) (I.left input.old) (I.left input.new) (O.written out.old) (O.written out.new)) KeepEnergy }
+
+    // And every word of every frame is within its port's bound, which the plan's words hold.
+    ensures words { result ≡ Status.Done → AsksRun (world (texts words.now) (H.files shelf.old) (I.left input.old) (I.left input.new) (O.written out.old) (O.written out.new))
+        → HasRun (world (texts words.now) (H.files shelf.old) (I.left input.old) (I.left input.new) (O.written out.old) (O.written out.new)) KeepWords }
 
     // Every other answer has its cause, and what was read and written then.
     ensures refused { result ≢ Status.Done

@@ -10,6 +10,7 @@ use Rattle.wdf_frames.specs.WaveRuns.{WritesWave}
 use Rattle.wdf_words.specs.Orders.{texts}
 use Rattle.wdf.specs.declared.filtering_stop.FilteringStop.TheVariants.{Bound, NoMemory, Frame}
 use Rattle.wdf.specs.RunAnswer.{RunStops, plan_in, setting_for}
+use Rattle.wdf.specs.Runs.{KeepsRuns}
 use Rattle.wdf.specs.World.{world}
 use Rattle.wdf.proofs.Handed.{handed_on}
 use Rattle.wdf.proofs.filtering.filter_words.Goals as goal
@@ -94,6 +95,8 @@ returns-clause-done g c =
     let head = c.in_ok-head.head in
     let plan : c.plan-plan.result ≡ plan_in o head = c.plan-plan.ensures in
     let set : setting_of c.in_ok-wave_run.wave_run ≡ setting_for o d head = c.in_ok-wave_run.ensures.set ∙ ap (λ (p : PlanOf). setting d.networks p head) plan in
+    let writes = subst (λ (s : Setting). WritesWave s between behind old now) set c.in_ok-write.ensures.ok in
+    let keeps = subst (λ (p : PlanOf). KeepsRuns (setting d.networks p head)) plan c.run_laws.ensures in
     record {
       between = between;
       prepared = record {
@@ -101,5 +104,7 @@ returns-clause-done g c =
         bounds = c.in_ok-bound_words.field-0;
         bounded = subst (λ (p : PlanOf). AreBounded d.networks p c.in_ok-bound_words.field-0) plan c.in_ok-bound_words.ensures.bounded;
       };
-      writes = subst (λ (s : Setting). WritesWave s between behind old now) set c.in_ok-write.ensures.ok;
+      writes = writes;
+      energy = keeps.energy writes.body;
+      words = keeps.words writes.body writes.size writes.within;
     }
