@@ -1,5 +1,4 @@
 ghost use Rattle.std.specs.Prelude.{◌≡◌, ◌≤◌, ◌<◌, IfOk, OnOk};
-ghost use Rattle.wdf_bounds.specs.Plans.{plan_of};
 ghost use Rattle.wdf_bounds.specs.WordBound.{Fits};
 ghost use Rattle.wdf_wav.specs.Header.{IsPcmHead};
 ghost use Rattle.wdf_frames.specs.RunStates.{IsFresh};
@@ -81,27 +80,6 @@ fn fits(alloc: Global, net: &Net, plan: &Plan) -> Result<(), Fail>
     Ok(())
 }
 
-// A plan for 10,000 frames of samples of at most `amp`.
-fn plan(guard: u8, amp: u32, bits: u8) -> Result<Plan, Fail>
-    ensures { IfOk result (λ plan. plan ≡ plan_of 14 guard 0 10000 amp bits) }
-{
-    match Plan::new(14, guard, 0, 10000, amp, bits) {
-        Some(plan) => Ok(plan),
-        None => Err(Fail::new("no plan")),
-    }
-}
-
-fn head(channels: u16, bits: u16, frames: u32) -> Head
-    ensures { result ≡ record { channels = channels; rate = 48000; bits = bits; frames = frames } }
-{
-    Head {
-        channels,
-        rate: 48000,
-        bits,
-        frames,
-    }
-}
-
 fn ladder(alloc: Global, net: Net, plan: &Plan, head: &Head) -> Result<WaveRun, Fail>
     requires width { plan.now.k ≡ net.k }
     requires head { IsPcmHead head.now }
@@ -135,6 +113,53 @@ fn lattice(alloc: Global, a: Net, b: Net, plan: &Plan, head: &Head) -> Result<Wa
     Ok(run)
 }
 
+#[derive(Clone, Copy)]
+enum Circuit {
+    Divider,
+    // A source, and this and a load in parallel.
+    Tee(Kind),
+    // Branches of a microohm and a megohm.
+    Lattice,
+}
+
+// A run, with multipliers of 14 bits and a plan for 10,000 frames.
+fn run_of(
+    alloc: Global,
+    circuit: Circuit,
+    guard: u8,
+    amp: u32,
+    head: &Head,
+) -> Result<WaveRun, Fail>
+    requires head { IsPcmHead head.now }
+    requires frames { head.now.frames ≤ 10000 }
+    ensures { IfOk result IsFresh }
+{
+    let Some(plan) = Plan::new(14, guard, 0, 10000, amp, head.bits as u8) else {
+        return Err(Fail::new("no plan"));
+    };
+    match circuit {
+        Circuit::Divider => ladder(alloc, divider()?, &plan, head),
+        Circuit::Tee(kind) => ladder(alloc, tee(alloc, kind)?, &plan, head),
+        Circuit::Lattice => lattice(alloc, branch(1)?, branch(16383)?, &plan, head),
+    }
+}
+
+// A head of samples of 8 or 16 bits.
+fn head(channels: u16, is_byte: bool, frames: u32) -> Result<Head, Fail>
+    ensures pcm { IfOk result IsPcmHead }
+    ensures few { IfOk result (λ h. h.frames ≤ 10000) }
+{
+    if channels < 1 || channels > 8 || frames > 10000 {
+        return Err(Fail::new("no head"));
+    }
+    Ok(Head {
+        channels,
+        rate: 48000,
+        bits: if is_byte { 8 } else { 16 },
+        frames,
+    })
+}
+
 // Some bytes, then zeros, and then others.
 fn bytes(alloc: Global, front: &[u8], zeros: usize, tail: &[u8]) -> Result<Vec<u8>, AllocError> {
     let mut bytes = front.to_vec(alloc)?;
@@ -152,10 +177,17 @@ fn calls(alloc: Global, call: Option<u64>) -> Result<Vec<u64>, AllocError> {
     }
 }
 
-// So many zeros and then `read` are read, in pieces, and the same zeros and then `written` are
-// written behind the header. At most 8 of the bytes that are left in the input are counted.
+// A wave of so many channels and frames runs through a circuit. So many zeros and then `read` are
+// read, in pieces, and the same zeros and then `written` are written behind the header of `runs`
+// channels. At most 8 of the bytes that are left in the input are counted.
 #[derive(Clone, Copy)]
 struct Case {
+    circuit: Circuit,
+    guard: u8,
+    amp: u32,
+    is_byte: bool,
+    channels: u16,
+    frames: u32,
     piece: usize,
     zeros: usize,
     read: &'static [u8],
@@ -163,10 +195,17 @@ struct Case {
     answer: Result<(), FrameStop>,
     left: usize,
     limited: u64,
+    runs: u16,
     written: &'static [u8],
 }
 
 const DONE: Case = Case {
+    circuit: Circuit::Divider,
+    guard: 4,
+    amp: 1000,
+    is_byte: false,
+    channels: 1,
+    frames: 0,
     piece: 10000,
     zeros: 0,
     read: &[],
@@ -174,19 +213,14 @@ const DONE: Case = Case {
     answer: Ok(()),
     left: 0,
     limited: 0,
+    runs: 1,
     written: &[],
 };
 
-fn expect(
-    rt: &impl Abort,
-    alloc: Global,
-    mut run: WaveRun,
-    written: &Head,
-    case: &Case,
-) -> Result<(), Fail>
-    requires fresh { IsFresh run }
-    requires head { IsPcmHead written.now }
-{
+fn expect(rt: &impl Abort, alloc: Global, case: &Case) -> Result<(), Fail> {
+    let head_in = head(case.channels, case.is_byte, case.frames)?;
+    let head_out = head(case.runs, case.is_byte, case.frames)?;
+    let mut run = run_of(alloc, case.circuit, case.guard, case.amp, &head_in)?;
     let piece = case.piece.max(1);
     let data = bytes(alloc, &[], case.zeros, case.read)?;
     let mut input = MemSource::new(data, calls(alloc, case.read_fails)?, piece);
@@ -194,200 +228,167 @@ fn expect(
     assert_eq!(rt; run.write(&mut input, &mut out), case.answer);
     assert_eq!(rt; run.limited(), case.limited);
     assert_eq!(rt; take_exact(&mut input, &mut [0; 8]), Ok(case.left));
-    let want = bytes(alloc, &head_bytes(written), case.zeros, case.written)?;
+    let want = bytes(alloc, &head_bytes(&head_out), case.zeros, case.written)?;
     assert!(rt; out.bytes() == want.as_slice());
     Ok(())
 }
 
-// A pulse of 16384 in the last frame of the first block, of one channel: the response of a source, a
-// capacitor and a load is 10922, 7281, -2426, worked by hand, and goes on in the second block.
-#[test]
-fn a_response_goes_on_in_the_next_block(rt: HostRuntime) -> Result<(), Fail> {
-    let alloc = rt.alloc();
-    let plan = plan(0, 16384, 16)?;
-    let head = head(1, 16, 4098);
-    let run = ladder(alloc, tee(alloc, Kind::Cap)?, &plan, &head)?;
-    let case = Case {
+fn expect_all(rt: &impl Abort, alloc: Global, cases: &[Case]) -> Result<(), Fail> {
+    for case in cases {
+        expect(rt, alloc, case)?;
+    }
+    Ok(())
+}
+
+// Worked by hand.
+static WORKED: [Case; 5] = [
+    // A pulse in the last frame of the first block: the response of a source, a capacitor and a load
+    // to 16384 is 10922, 7281, -2426, and goes on in the second block.
+    Case {
+        circuit: Circuit::Tee(Kind::Cap),
+        guard: 0,
+        amp: 16384,
+        frames: 4098,
         zeros: 8190,
         read: &[0, 0x40, 0, 0, 0, 0],
         written: &[0xaa, 0x2a, 0x71, 0x1c, 0x86, 0xf6],
         ..DONE
-    };
-    expect(&rt, alloc, run, &head, &case)
-}
-
-// The same response in three of five channels, each of which has a state of its own.
-#[test]
-fn channels_run_apart(rt: HostRuntime) -> Result<(), Fail> {
-    let alloc = rt.alloc();
-    let plan = plan(0, 16384, 16)?;
-    let head = head(5, 16, 3);
-    let run = ladder(alloc, tee(alloc, Kind::Cap)?, &plan, &head)?;
-    let case = Case {
+    },
+    // The same response in three of five channels, each of which has a state of its own.
+    Case {
+        circuit: Circuit::Tee(Kind::Cap),
+        guard: 0,
+        amp: 16384,
+        channels: 5,
+        frames: 3,
         piece: 1,
         read: b"\0\x40\0\xc0\0\0\0\0\0\x40\0\0\0\0\0\0\0\0\0\0\0\0\0\0\0\0\0\0\0\0",
+        runs: 5,
         written: b"\xaa\x2a\x56\xd5\0\0\0\0\xaa\x2a\x71\x1c\x8f\xe3\0\0\0\0\x71\x1c\x86\xf6\x7a\x09\0\0\0\0\x86\xf6",
         ..DONE
-    };
-    expect(&rt, alloc, run, &head, &case)
-}
-
-// Two channels drive the two sources of one run: 3000 and 6000 give 6000, 3 and -3 give 0, and 32767
-// twice comes to 43687, which is limited. The output has one channel.
-#[test]
-fn sources_are_driven_in_one_run(rt: HostRuntime) -> Result<(), Fail> {
-    let alloc = rt.alloc();
-    let plan = plan(0, 32768, 16)?;
-    let read = head(2, 16, 3);
-    let run = ladder(alloc, tee(alloc, Kind::Src)?, &plan, &read)?;
-    let case = Case {
-        read: &[
-            0xb8, 0x0b, 0x70, 0x17, 3, 0, 0xfd, 0xff, 0xff, 0x7f, 0xff, 0x7f,
-        ],
+    },
+    // Two channels drive the two sources of one run: 3000 and 6000 give 6000, 3 and -3 give 0, and
+    // 32767 twice comes to 43687, which is limited.
+    Case {
+        circuit: Circuit::Tee(Kind::Src),
+        guard: 0,
+        amp: 32768,
+        channels: 2,
+        frames: 3,
+        read: b"\xb8\x0b\x70\x17\x03\0\xfd\xff\xff\x7f\xff\x7f",
         limited: 1,
         written: &[0x70, 0x17, 0, 0, 0xff, 0x7f],
         ..DONE
-    };
-    expect(&rt, alloc, run, &head(1, 16, 3), &case)
-}
-
-// Arms of a microohm and a megohm: 1000 gives 999, and -32768 gives -32764.
-#[test]
-fn a_lattice_gives_half_its_difference(rt: HostRuntime) -> Result<(), Fail> {
-    let alloc = rt.alloc();
-    let plan = plan(4, 32768, 16)?;
-    let head = head(1, 16, 2);
-    let run = lattice(alloc, branch(1)?, branch(16383)?, &plan, &head)?;
-    let case = Case {
+    },
+    // 1000 gives 999, and -32768 gives -32764.
+    Case {
+        circuit: Circuit::Lattice,
+        amp: 32768,
+        frames: 2,
         read: &[0xe8, 3, 0, 0x80],
         written: &[0xe7, 3, 4, 0x80],
         ..DONE
-    };
-    expect(&rt, alloc, run, &head, &case)
-}
-
-// Data of three bytes has a pad byte behind it; that of the input is not read.
-#[test]
-fn a_pad_byte_follows_odd_data(rt: HostRuntime) -> Result<(), Fail> {
-    let alloc = rt.alloc();
-    let plan = plan(4, 128, 8)?;
-    let head = head(1, 8, 3);
-    let run = ladder(alloc, divider()?, &plan, &head)?;
-    let case = Case {
+    },
+    // Data of three bytes has a pad byte behind it; that of the input is not read.
+    Case {
+        amp: 128,
+        is_byte: true,
+        frames: 3,
         read: &[133, 127, 0, 99],
         left: 1,
         written: &[133, 127, 0, 0],
         ..DONE
-    };
-    expect(&rt, alloc, run, &head, &case)
+    },
+];
+
+#[test]
+fn circuits_give_what_was_worked_by_hand(rt: HostRuntime) -> Result<(), Fail> {
+    expect_all(&rt, rt.alloc(), &WORKED)
 }
 
-// One channel of samples of at most 1000 through a divider, which gives what it is given: the frames
-// of the head, and what is read and written.
-static MONO: [(u32, Case); 8] = [
+// One channel of samples of at most 1000 through a divider, which gives what it is given.
+static MONO: [Case; 8] = [
     // Just a block, and a frame more.
-    (
-        4096,
-        Case {
-            zeros: 8190,
-            read: &[7, 1, 9],
-            left: 1,
-            written: &[7, 1],
-            ..DONE
-        },
-    ),
-    (
-        4097,
-        Case {
-            piece: 1,
-            zeros: 8190,
-            read: &[7, 1, 0xe8, 3, 9],
-            left: 1,
-            written: &[7, 1, 0xe8, 3],
-            ..DONE
-        },
-    ),
-    (
-        0,
-        Case {
-            left: 1,
-            read: &[9],
-            ..DONE
-        },
-    ),
+    Case {
+        frames: 4096,
+        zeros: 8190,
+        read: &[7, 1, 9],
+        left: 1,
+        written: &[7, 1],
+        ..DONE
+    },
+    Case {
+        frames: 4097,
+        piece: 1,
+        zeros: 8190,
+        read: &[7, 1, 0xe8, 3, 9],
+        left: 1,
+        written: &[7, 1, 0xe8, 3],
+        ..DONE
+    },
+    Case {
+        frames: 0,
+        left: 1,
+        read: &[9],
+        ..DONE
+    },
     // The end of the input before the first frame, in the second block, and within a frame of it.
-    (
-        5,
-        Case {
-            answer: Err(FrameStop::Truncated { frames: 0 }),
-            ..DONE
-        },
-    ),
-    (
-        4099,
-        Case {
-            zeros: 8192,
-            read: &[7, 1],
-            answer: Err(FrameStop::Truncated { frames: 4097 }),
-            written: &[7, 1],
-            ..DONE
-        },
-    ),
-    (
-        4098,
-        Case {
-            zeros: 8192,
-            read: &[7, 1, 9],
-            answer: Err(FrameStop::Truncated { frames: 4097 }),
-            written: &[7, 1],
-            ..DONE
-        },
-    ),
+    Case {
+        frames: 5,
+        answer: Err(FrameStop::Truncated { frames: 0 }),
+        ..DONE
+    },
+    Case {
+        frames: 4099,
+        zeros: 8192,
+        read: &[7, 1],
+        answer: Err(FrameStop::Truncated { frames: 4097 }),
+        written: &[7, 1],
+        ..DONE
+    },
+    Case {
+        frames: 4098,
+        zeros: 8192,
+        read: &[7, 1, 9],
+        answer: Err(FrameStop::Truncated { frames: 4097 }),
+        written: &[7, 1],
+        ..DONE
+    },
     // A failing read in the second block: the first is written. In the first: only the header is.
-    (
-        4098,
-        Case {
-            piece: 8192,
-            zeros: 8190,
-            read: &[7, 1, 3, 3],
-            read_fails: Some(1),
-            answer: Err(FrameStop::ReadFault),
-            left: 2,
-            written: &[7, 1],
-            ..DONE
-        },
-    ),
-    (
-        2,
-        Case {
-            piece: 1,
-            read: &[7, 1, 3, 3],
-            read_fails: Some(3),
-            answer: Err(FrameStop::ReadFault),
-            left: 1,
-            ..DONE
-        },
-    ),
+    Case {
+        frames: 4098,
+        piece: 8192,
+        zeros: 8190,
+        read: &[7, 1, 3, 3],
+        read_fails: Some(1),
+        answer: Err(FrameStop::ReadFault),
+        left: 2,
+        written: &[7, 1],
+        ..DONE
+    },
+    Case {
+        frames: 2,
+        piece: 1,
+        read: &[7, 1, 3, 3],
+        read_fails: Some(3),
+        answer: Err(FrameStop::ReadFault),
+        left: 1,
+        ..DONE
+    },
 ];
 
 #[test]
 fn one_channel_ends_in_each_way(rt: HostRuntime) -> Result<(), Fail> {
-    let alloc = rt.alloc();
-    let plan = plan(4, 1000, 16)?;
-    for (frames, case) in &MONO {
-        if *frames <= 10000 {
-            let head = head(1, 16, *frames);
-            let run = ladder(alloc, divider()?, &plan, &head)?;
-            expect(&rt, alloc, run, &head, case)?;
-        }
-    }
-    Ok(())
+    expect_all(&rt, rt.alloc(), &MONO)
 }
 
 // Two channels of samples of at most 1000, in 5000 frames. Of two that are over it the first is told,
 // and the frames before its own are written.
 static STEREO: [Case; 4] = [
     Case {
+        channels: 2,
+        frames: 5000,
+        runs: 2,
         zeros: 16388,
         read: b"\xe8\x03\xe9\x03\xe9\x03\0\0",
         answer: Err(FrameStop::Amplitude {
@@ -399,6 +400,9 @@ static STEREO: [Case; 4] = [
         ..DONE
     },
     Case {
+        channels: 2,
+        frames: 5000,
+        runs: 2,
         read: b"\x18\xfc\xe8\x03\x17\xfc\xe9\x03",
         answer: Err(FrameStop::Amplitude {
             frame: 1,
@@ -409,6 +413,9 @@ static STEREO: [Case; 4] = [
         ..DONE
     },
     Case {
+        channels: 2,
+        frames: 5000,
+        runs: 2,
         zeros: 16384,
         read: b"\0\x80\0\0",
         answer: Err(FrameStop::Amplitude {
@@ -421,6 +428,9 @@ static STEREO: [Case; 4] = [
     },
     // In a part of a frame it is not looked at.
     Case {
+        channels: 2,
+        frames: 5000,
+        runs: 2,
         read: b"\x18\xfc\xe8\x03\x17\xfc",
         answer: Err(FrameStop::Truncated { frames: 1 }),
         written: &[0x18, 0xfc, 0xe8, 3],
@@ -430,14 +440,7 @@ static STEREO: [Case; 4] = [
 
 #[test]
 fn the_first_sample_over_amp_ends_a_run(rt: HostRuntime) -> Result<(), Fail> {
-    let alloc = rt.alloc();
-    let plan = plan(4, 1000, 16)?;
-    let head = head(2, 16, 5000);
-    for case in &STEREO {
-        let run = ladder(alloc, divider()?, &plan, &head)?;
-        expect(&rt, alloc, run, &head, case)?;
-    }
-    Ok(())
+    expect_all(&rt, rt.alloc(), &STEREO)
 }
 
 // The call that fails and the room of an output, and how many bytes it holds then: at the header,
@@ -454,16 +457,14 @@ static OUTPUTS: [(u64, usize, usize); 6] = [
 #[test]
 fn an_output_may_fail(rt: HostRuntime) -> Result<(), Fail> {
     let alloc = rt.alloc();
-    let plan = plan(4, 128, 8)?;
-    let head = head(1, 8, 4101);
+    let head = head(1, true, 4101)?;
     let data = bytes(alloc, &[128; 4101], 0, &[])?;
+    let want = bytes(alloc, &head_bytes(&head), 0, &data)?;
     for (call, room, held) in &OUTPUTS {
-        let mut run = ladder(alloc, divider()?, &plan, &head)?;
+        let mut run = run_of(alloc, Circuit::Divider, 4, 128, &head)?;
         let mut input = MemSource::new(data.clone()?, Vec::new(alloc), 10000);
         let mut out = MemSink::new(alloc, vec![in alloc; *call]?, 10000, *room)?;
         assert_eq!(rt; run.write(&mut input, &mut out), Err(FrameStop::WriteFault));
-        let mut want = head_bytes(&head).to_vec(alloc)?;
-        want.extend_from_slice(&data)?;
         assert_eq!(rt; out.bytes().len(), *held);
         assert!(rt; want.starts_with(out.bytes()));
     }
