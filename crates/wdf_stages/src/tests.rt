@@ -100,33 +100,41 @@ const HIGH: &str = "rate 48000\nsource S a 0 1\nr L a 0 5M\nload L\n";
 const LATTICE: &str =
     "rate 48000\nlattice 1\nbranch A p n\nr RA p n 5M\nbranch B p n\nr RB p n 1\nr D n x 1\n";
 
+// There is no shape: a core of so many edges is left, which is named by the element.
+fn is_core(stop: &DesignStop, at: Side, named: &str, edges: usize) -> bool {
+    match stop {
+        DesignStop::NotSeriesParallel {
+            side,
+            element,
+            core,
+        } => *side == at && Some(*element) == name(named) && core.list().len() == edges,
+        _ => false,
+    }
+}
+
+// The port of the element is out of range.
+fn is_out_of_range(stop: &DesignStop, named: &str, below: bool) -> bool {
+    match stop {
+        DesignStop::PortRange { side, element, low } => {
+            *side == Side::Whole && Some(*element) == name(named) && *low == below
+        }
+        _ => false,
+    }
+}
+
 #[test]
 fn refused_designs_name_an_element(rt: HostRuntime) -> Result<(), Fail> {
     let alloc = rt.alloc();
     for (text, at, element, edges) in [(BRIDGE, Side::Whole, "R1", 5), (LATTICE, Side::B, "D", 2)] {
         match design_networks(alloc, &loaded(alloc, text)?, 14) {
-            Err(
-                DesignStop::NotSeriesParallel {
-                    side,
-                    element: found,
-                    core,
-                },
-            ) => {
-                assert_eq!(rt; side, at);
-                assert_eq!(rt; Some(found), name(element));
-                assert_eq!(rt; core.list().len(), edges);
-            }
-            _ => assert!(rt; false, "{text}"),
+            Err(stop) => assert!(rt; is_core(&stop, at, element, edges), "{text}"),
+            Ok(_) => assert!(rt; false, "{text}"),
         }
     }
     for (text, below) in [(LOW, true), (HIGH, false)] {
         match design_networks(alloc, &loaded(alloc, text)?, 14) {
-            Err(DesignStop::PortRange { side, element, low }) => {
-                assert_eq!(rt; side, Side::Whole);
-                assert_eq!(rt; Some(element), name("L"));
-                assert_eq!(rt; low, below);
-            }
-            _ => assert!(rt; false, "{text}"),
+            Err(stop) => assert!(rt; is_out_of_range(&stop, "L", below), "{text}"),
+            Ok(_) => assert!(rt; false, "{text}"),
         }
     }
     Ok(())
@@ -167,6 +175,24 @@ fn bound_stop(
     }
 }
 
+// At the port of the element a limit is exceeded.
+fn is_over(stop: &Option<BoundStop>, named: &str, over: (bool, u128, u64)) -> bool {
+    match stop {
+        Some(
+            BoundStop::Bound {
+                side,
+                element,
+                ratio,
+                need,
+                limit,
+            },
+        ) => {
+            *side == Side::Whole && Some(*element) == name(named) && (*ratio, *need, *limit) == over
+        }
+        _ => false,
+    }
+}
+
 #[test]
 fn a_plan_is_bounded_or_names_an_element(rt: HostRuntime) -> Result<(), Fail> {
     let alloc = rt.alloc();
@@ -175,37 +201,13 @@ fn a_plan_is_bounded_or_names_an_element(rt: HostRuntime) -> Result<(), Fail> {
 
     let wide = Plan::new(16, 8, 0, 67_108_864, 2_147_483_648, 32);
     let stop = bound_stop(&rt, alloc, DIVIDER, 16, wide)?;
-    let Some(
-        BoundStop::Bound {
-            side: Side::Whole,
-            element,
-            ratio: false,
-            need: 4_503_599_627_370_496,
-            limit: 17_592_186_044_416,
-        },
-    ) = stop
-    else {
-        assert!(rt; false, "{stop:?}");
-        return Ok(());
-    };
-    assert_eq!(rt; Some(element), name("S"));
+    let word = (false, 4_503_599_627_370_496, 17_592_186_044_416);
+    assert!(rt; is_over(&stop, "S", word), "{stop:?}");
 
     let coarse = Plan::new(1, 4, 0, 67_108_864, 32_768, 16);
     let stop = bound_stop(&rt, alloc, &crowd(alloc)?, 1, coarse)?;
-    let Some(
-        BoundStop::Bound {
-            side: Side::Whole,
-            element,
-            ratio: true,
-            need: 9_223_372_036_854_775_808,
-            limit: 4_611_686_018_427_387_904,
-        },
-    ) = stop
-    else {
-        assert!(rt; false, "{stop:?}");
-        return Ok(());
-    };
-    assert_eq!(rt; Some(element), name("R1"));
+    let number = (true, 9_223_372_036_854_775_808, 4_611_686_018_427_387_904);
+    assert!(rt; is_over(&stop, "R1", number), "{stop:?}");
     Ok(())
 }
 
