@@ -3,15 +3,17 @@
 use super::calls::{Case, Objects, SOUND, call, is_answered};
 use super::circuits::DIVIDER;
 use std::alloc::{AllocError, Global};
+use std::process::Abort;
 use std::test::Fail;
 
 // The header of 10,000 frames of one channel of 16 bits.
 const HEADER: &[u8; 44] =
     b"RIFFDN\0\0WAVEfmt \x10\0\0\0\x01\0\x01\0\x80\xbb\0\0\0w\x01\0\x02\0\x10\0data N\0\0";
 
-// Bytes of the front of a wave: the header and so many frames.
-const fn front(frames: usize) -> usize {
-    44 + 2 * frames
+// So many bytes of the front of a wave.
+fn front<'a>(rt: &impl Abort, wave: &'a [u8], count: usize) -> &'a [u8] {
+    assert!(rt; count <= wave.len());
+    &wave[..count]
 }
 
 // 10,000 frames, all of them 0 but frame 5,000, which is 5.
@@ -49,7 +51,7 @@ fn a_block_is_written_as_one_piece(rt: HostRuntime) -> Result<(), Fail> {
     };
     let outcome = call(&rt, alloc, &done, fourth)?;
     assert_eq!(rt; outcome.code, 15);
-    assert_eq!(rt; outcome.out.len(), front(8_192));
+    assert_eq!(rt; outcome.out.len(), 44 + 2 * 8_192);
     assert!(rt; wave.starts_with(&outcome.out));
     Ok(())
 }
@@ -58,22 +60,21 @@ fn a_block_is_written_as_one_piece(rt: HostRuntime) -> Result<(), Fail> {
 fn a_later_block_stops_at_its_frame(rt: HostRuntime) -> Result<(), Fail> {
     let alloc = rt.alloc();
     let wave = wave(alloc)?;
-    assert!(rt; wave.len() == front(10_000));
     let loud = Case {
         words: "run|net=N|amp=4",
         netlist: DIVIDER,
         certificate: b"",
         input: &wave,
         code: 9,
-        out: &wave[..front(5_000)],
+        out: front(&rt, &wave, 44 + 2 * 5_000),
         line: "wdf: 9 amplitude frame 5000 channel 0 sample 5\n",
     };
     is_answered(&rt, alloc, &loud, SOUND)?;
     let short = Case {
         words: "run|net=N",
-        input: &wave[..front(9_000) + 1],
+        input: front(&rt, &wave, 45 + 2 * 9_000),
         code: 10,
-        out: &wave[..front(9_000)],
+        out: front(&rt, &wave, 44 + 2 * 9_000),
         line: "wdf: 10 truncated frames 9000\n",
         ..loud
     };

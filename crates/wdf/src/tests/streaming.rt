@@ -41,7 +41,8 @@ impl Source for Waiting<'_> {
             return Err(Failed);
         }
         if self.given < 44 {
-            let rest = &HEADER[self.given..];
+            let head = HEADER.as_slice();
+            let rest = &head[self.given..];
             let count = buf.len().min(rest.len());
             buf[..count].copy_from_slice(&rest[..count]);
             self.given += count;
