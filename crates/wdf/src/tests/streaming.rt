@@ -4,6 +4,7 @@ ghost use Rattle.std.specs.Prelude.{◌≤◌, ◌<◌, ◌^◌, None, vec_len};
 ghost use Rattle.std.specs.Io.{ReadsAtMost, WritesAtMost};
 ghost use Rattle.std.specs.Io.KnownBytes.{ReadConsumes, WriteAppends};
 ghost use Rattle.wdf_io.specs.Causes.{HasCause, WriteHasCause};
+ghost use Rattle.std.proofs.Common.{rules};
 
 use super::circuits::DIVIDER;
 use crate::run::run;
@@ -26,6 +27,7 @@ struct Waiting<'a> {
     written: &'a Cell<usize>,
     given: usize,
     faults: u64,
+    ghost bounded: { faults < 2 ^ 64 },
 }
 
 impl Source for Waiting<'_> {
@@ -33,7 +35,7 @@ impl Source for Waiting<'_> {
 
     ghost faults = { λ source. source.faults };
 
-    ghost counted = { λ source. Prim.search rules };
+    ghost counted = { λ source. source.bounded };
 
     fn read(&mut self, buf: &mut [u8]) -> Result<usize, Failed> {
         if self.given >= FIRST && self.written.get() < FIRST {
