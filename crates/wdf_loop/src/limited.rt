@@ -4,6 +4,8 @@ ghost use Rattle.wdf_algebra.specs.Truncation.{trunc};
 ghost use Rattle.wdf_law.specs.OutputRule.{limited, output_of};
 ghost use Rattle.wdf_loop.specs.Limiting.{is_limited, is_outside};
 
+use wdf_algebra::quotient;
+
 /// An output sample.
 #[derive(Clone, Copy, Debug, PartialEq, Eq)]
 pub struct Limited {
@@ -38,12 +40,17 @@ fn output_step(down: u8) -> i64
     1 << down
 }
 
-// The wave in units of the output, towards zero. It is any number, so this is a division.
+// The wave in units of the output, towards zero. It is any number, and the least has no magnitude
+// that could be shifted.
 fn scaled(w: i64, down: u8) -> i64
     requires { down ≤ 33 }
     ensures { result ≡ trunc w (2 ^ down) }
 {
-    w / output_step(down)
+    if w == i64::MIN {
+        w / output_step(down)
+    } else {
+        quotient(w, u32::from(down))
+    }
 }
 
 // The nearest value of `bits` bits.
