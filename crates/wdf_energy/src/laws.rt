@@ -8,7 +8,8 @@ use wdf_bounds::Plan;
 use wdf_law::Net;
 
 /// Totals worked by hand are those of their runs: of a source with a capacitor and a load, and of two
-/// sources with a load.
+/// sources with a load. Frames that a ledger is told of have the totals that were worked by hand, and
+/// those of the ledger lines of another program.
 pub fn worked_totals()
     ensures { AreWorkedTotals }
 {}

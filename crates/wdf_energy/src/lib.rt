@@ -6,6 +6,8 @@ mod group;
 pub mod laws;
 mod ledger;
 mod port;
+#[cfg(test)]
+mod tests;
 mod totals;
 
 pub use ledger::Ledger;
