@@ -1,7 +1,7 @@
 -- The samples of a run are cut from those of a frame, and the load waves of a frame are written one after another.
 use Rattle.std.proofs.Common.{◌≡◌, ℕ, ◌+◌, ◌-◌, ◌*◌, ◌^◌, ◌<◌, ◌≤◌, List, [], ◌∷◌, ◌++◌, length, take, drop, set, sym, ap, ◌∙◌, arith}
 use Rattle.std.specs.Prelude.{ℤ, unsigned_abs, All}
-use Rattle.std.proofs.Math.Nat.{mul-le-mul_right, pow-le-pow_right}
+use Rattle.std.proofs.Math.Nat.{mul-le-mul, mul-le-mul_right, pow-le-pow_right}
 use Rattle.std.proofs.lemmas.List.{length-drop, length-take-le, take_more_set}
 use Rattle.std.proofs.lemmas.List.Elements.{All-take, All-drop}
 use Rattle.std.proofs.lemmas.List.FromFn.{map-range_with_len_more}
@@ -35,4 +35,12 @@ pub word_small : (p : PlanOf) (z : ℤ) → unsigned_abs z ≤ word_limit p → 
 word_small p z within =
     let least : 60 - p.k ≤ 60 = omega arith in
     let whole : 2 ^ (60 - p.k) ≤ 2 ^ 60 = pow-le-pow_right (omega arith) least in
+    omega arith
+
+-- a sample of 32 bits with 16 more
+pub shifted_fits : (a g : ℕ) → a < 2 ^ 32 → g ≤ 16 → a * 2 ^ g < 2 ^ 63
+shifted_fits a g h k =
+    let scale : 2 ^ g ≤ 2 ^ 16 = pow-le-pow_right (omega arith) k in
+    let least : a ≤ 2 ^ 32 = omega arith in
+    let both : a * 2 ^ g ≤ 2 ^ 32 * 2 ^ 16 = mul-le-mul least scale in
     omega arith

@@ -3,13 +3,14 @@ use Rattle.std.proofs.Common.{◌≡◌, ℕ, ◌+◌, ◌<◌, ◌≤◌, ◌�
 use Rattle.std.specs.Prelude.{ℤ}
 use Rattle.std.proofs.lemmas.List.{get_or-set_same, get_or-set_other, get_or_default, get_or_append_left, length-append, length-set}
 use Rattle.std.proofs.Math.Seq.{get_or-append_seam}
-use Rattle.wdf_law.specs.Network.{Network}
-use Rattle.wdf_law.specs.Step.{IsStep, after}
+use Rattle.wdf_law.specs.Network.{Network, elements}
+use Rattle.wdf_law.specs.Step.{IsStep, sent_in, after}
 use Rattle.wdf_law.specs.Run.{states}
 use Rattle.wdf_law.specs.OutputRule.{drive, load_wave}
 use Rattle.wdf_law.specs.Laws.{HasOneStep}
 use Rattle.wdf_bounds.specs.Plans.{PlanOf}
 use Rattle.wdf_tree.specs.Engines.{EngineValue, IsFresh, IsNext, state_of}
+use Rattle.wdf_tree.specs.Places.{at_place}
 use Rattle.wdf_lattice.specs.Waves.{samples_for}
 use Rattle.wdf_lattice.specs.RunEngines.{IsEngineFor, AreEngines, AreFresh, StepEach, step_from, step_of, wave_of}
 
@@ -33,6 +34,12 @@ pub next_state : (n : Network) (plan : PlanOf) (count : ℕ) (samples : List ℤ
     → state_of b ≡ after n (step_from n plan.guard (state_of a) samples)
 next_state n plan count samples w a b one is next = next.state ∙ (λ i. after (is.net i) (next_step n plan count samples w a b one is next i))
 
+next_downs : (n : Network) (plan : PlanOf) (count : ℕ) (samples : List ℤ) (w : ℤ) (a b : EngineValue) → HasOneStep n → IsEngineFor n plan count a → IsNext a samples w b
+    → (j : ℕ) → j < length (elements n) → at_place b.downs j ≡ sent_in n (step_from n plan.guard (state_of a) samples) j
+next_downs n plan count samples w a b one is next j below =
+    let here : j < length (elements a.net) = subst (λ (m : Network). j < length (elements m)) (sym is.net) below in
+    next.downs j here ∙ (λ i. sent_in (is.net i) (next_step n plan count samples w a b one is next i) j)
+
 pub next_wave : (n : Network) (plan : PlanOf) (count : ℕ) (samples : List ℤ) (w : ℤ) (a b : EngineValue) → HasOneStep n → IsEngineFor n plan count a → IsNext a samples w b
     → w ≡ load_wave n (step_from n plan.guard (state_of a) samples)
 next_wave n plan count samples w a b one is next = next.wave ∙ (λ i. load_wave (is.net i) (next_step n plan count samples w a b one is next i))
@@ -43,6 +50,8 @@ pub record StepsBelow (n : Network) (plan : PlanOf) (count runs sources : ℕ) (
   pub long : length now ≡ runs
   pub engines : (d : EngineValue) (run : ℕ) → run < at → IsEngineFor n plan (count + 1) (get_or now run d)
   pub states_are : (d : EngineValue) (run : ℕ) → run < at → state_of (get_or now run d) ≡ after n (step_of n plan sources frame (get_or before run d) run)
+  pub downs_are : (d : EngineValue) (run : ℕ) → run < at → (j : ℕ) → j < length (elements n)
+      → at_place (get_or now run d).downs j ≡ sent_in n (step_of n plan sources frame (get_or before run d) run) j
   pub others : (d : EngineValue) (run : ℕ) → at ≤ run → get_or now run d ≡ get_or before run d
 
 pub steps_none : (n : Network) (plan : PlanOf) (count runs sources : ℕ) (frame : List ℤ) (before : List EngineValue) → AreEngines n plan count runs before
@@ -51,6 +60,7 @@ steps_none n plan count runs sources frame before are = record {
   long = are.long;
   engines = λ d run none. absurd (omega arith);
   states_are = λ d run none. absurd (omega arith);
+  downs_are = λ d run none. absurd (omega arith);
   others = λ d run h. refl;
 }
 
@@ -78,6 +88,11 @@ steps_more n plan count runs sources frame before now at w a b one are below few
       states_are = λ d. below_more _ _
           (λ run h. let other : run ≢ at = omega arith in ap state_of (get_or-set_other now at run b d other) ∙ below.states_are d run h)
           (ap state_of (placed d) ∙ next_state n plan count samples w a b one is next ∙ ap (λ (x : EngineValue). after n (step_of n plan sources frame x at)) (was d));
+      downs_are = λ d. below_more _ _
+          (λ run h. let other : run ≢ at = omega arith in λ j inside.
+          ap (λ (x : EngineValue). at_place x.downs j) (get_or-set_other now at run b d other) ∙ below.downs_are d run h j inside)
+          (λ j inside. ap (λ (x : EngineValue). at_place x.downs j) (placed d) ∙ next_downs n plan count samples w a b one is next j inside
+          ∙ ap (λ (x : EngineValue). sent_in n (step_of n plan sources frame x at) j) (was d));
       others = λ d run h. let other : run ≢ at = omega arith in get_or-set_other now at run b d other ∙ below.others d run (omega arith);
     }
 
@@ -94,12 +109,16 @@ wave_more n plan count runs sources frame before now at w a b one are below few 
 
 pub steps_all : (n : Network) (plan : PlanOf) (count runs sources : ℕ) (frame : List ℤ) (before now : List EngineValue)
     → StepsBelow n plan count runs sources frame before now runs → StepEach n plan count runs sources frame before now
-steps_all n plan count runs sources frame before now below = record { engines = record { long = below.long; each = below.engines }; states_are = below.states_are }
+steps_all n plan count runs sources frame before now below = record {
+  engines = record { long = below.long; each = below.engines };
+  states_are = below.states_are;
+  downs_are = below.downs_are;
+}
 
 -- ---- their beginning
 
 pub fresh_none : (n : Network) (plan : PlanOf) → AreFresh n plan 0 []
-fresh_none n plan = record { engines_are = record { long = refl; each = λ d run none. absurd (omega arith) }; states_are = λ d run none. absurd (omega arith) }
+fresh_none n plan = record { engines_are = record { long = refl; each = λ d run none. absurd (omega arith) }; states_are = λ d run none. absurd (omega arith); downs_are = λ d run none. absurd (omega arith) }
 
 pub fresh_more : (n : Network) (plan : PlanOf) (runs : ℕ) (xs : List EngineValue) (a : EngineValue) → AreFresh n plan runs xs → IsFresh a n plan → AreFresh n plan (runs + 1) (xs ++ a ∷ [])
 fresh_more n plan runs xs a are is =
@@ -114,4 +133,5 @@ fresh_more n plan runs xs a are is =
             (subst (IsEngineFor n plan 0) (sym (placed d)) begun);
       };
       states_are = λ d. below_more _ _ (λ run h. ap state_of (kept d run h) ∙ are.states_are d run h) (ap state_of (placed d) ∙ is.state);
+      downs_are = λ d. below_more _ _ (λ run h. ap (λ (x : EngineValue). x.downs) (kept d run h) ∙ are.downs_are d run h) (ap (λ (x : EngineValue). x.downs) (placed d) ∙ is.downs);
     }

@@ -9,8 +9,10 @@ use Rattle.wdf_lattice.specs.declared.networks.Networks.TheVariants.{Ladder, Lat
 use Rattle.wdf_lattice.specs.Sides.{sources_driven}
 use Rattle.wdf_lattice.specs.Waves.{frames_of}
 use Rattle.wdf_lattice.specs.SolvedWaves.{States, all_at_rest, states_behind, waves_from, waves_for}
-use Rattle.wdf_lattice.specs.Runners.{AreAtRest, RunsOn}
-use Rattle.wdf_lattice.specs.RunnerLaws.{LeadsTo, GoesOnFromRest}
+use Rattle.wdf_lattice.specs.SideAccounts.{Accounts, all_opened, accounts_behind}
+use Rattle.wdf_lattice.specs.Runners.{AreAtRest, AreOpened, RunsOn, NotesOn}
+use Rattle.wdf_lattice.specs.RunnerLaws.{LeadsTo, AreAccountsOf, GoesOnFromRest}
+use Rattle.wdf_lattice.proofs.AccountLemmas.{accounts-append, accounts_agree}
 use Rattle.wdf_lattice.proofs.WaveLemmas.{frames-append, waves-append, states-append}
 use Rattle.wdf_lattice.proofs.RunOverLemmas.{frames_pieces, states_agree, waves_agree}
 
@@ -61,10 +63,37 @@ lead_on ns guard runs count samples more waves zs ys some leads long on =
           ∙ ap (λ (fs : List (List ℤ)). states_behind ns guard rest fs side run) (sym (frames-append ns runs leads.whole.0 samples more some leads.whole.1))));
     }
 
+open_up : (ns : Networks) (guard runs : ℕ) (accounts : Accounts) → 0 < runs * sources_driven ns → AreOpened ns runs accounts → AreAccountsOf ns guard runs [] accounts
+open_up ns guard runs accounts some are side run few =
+    are side run few
+    ∙ (stays ns side run ∙ ap (λ (fs : List (List ℤ)). accounts_behind ns guard (all_at_rest ns) (all_opened ns) fs side run) (sym (no_frame ns runs some)))
+  where
+    stays : (ns : Networks) (side : Side) (run : ℕ) → all_opened ns side run ≡ accounts_behind ns guard (all_at_rest ns) (all_opened ns) [] side run
+    stays (Ladder n) Whole run = refl
+    stays (Ladder n) A run = refl
+    stays (Ladder n) B run = refl
+    stays (Lattice a b) Whole run = refl
+    stays (Lattice a b) A run = refl
+    stays (Lattice a b) B run = refl
+
+note_on : (ns : Networks) (guard runs : ℕ) (samples more : List ℤ) (zs : States) (before behind : Accounts) → 0 < runs * sources_driven ns → LeadsTo ns guard runs samples zs
+    → AreAccountsOf ns guard runs samples before → NotesOn ns guard runs zs before behind more → AreAccountsOf ns guard runs (samples ++ more) behind
+note_on ns guard runs samples more zs before behind some leads are on side run few =
+    let rest = all_at_rest ns in
+    let none = all_opened ns in
+    let front = frames_of ns runs samples in
+    let next = frames_of ns runs more in
+    on side run few
+    ∙ (accounts_agree ns guard (states_behind ns guard rest front) zs (accounts_behind ns guard rest none front) before next side run (leads.states_are side run few) (are side run few)
+    ∙ (sym (accounts-append ns guard rest none front next side run)
+    ∙ ap (λ (fs : List (List ℤ)). accounts_behind ns guard rest none fs side run) (sym (frames-append ns runs leads.whole.0 samples more some leads.whole.1))))
+
 pub goes_on_from_rest : (ns : Networks) → GoesOnFromRest ns
 goes_on_from_rest ns = record {
   begins = begins ns;
   none = λ guard runs some. ap (waves_from ns guard runs (all_at_rest ns)) (no_frame ns runs some);
   waves = go_on ns;
   leads = lead_on ns;
+  opens = open_up ns;
+  notes = note_on ns;
 }

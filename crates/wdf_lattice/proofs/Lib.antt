@@ -1,8 +1,13 @@
+mod AccountLemmas
 mod CutLemmas
 mod EngineLemmas
+mod EntryLemmas
 mod FrameLemmas
 mod HistoryLemmas
+mod LedgerLemmas
 mod OneWave
 mod RunLemmas
 mod RunOverLemmas
+mod TotalLemmas
 mod WaveLemmas
+mod WidthLemmas

@@ -3,7 +3,7 @@ use Rattle.std.proofs.Common.{◌≡◌, ℕ, zero, suc, ◌+◌, ◌-◌, ◌*�
 use Rattle.std.specs.Prelude.{ℤ}
 use Rattle.std.specs.List.{range_with_len}
 use Rattle.std.proofs.Math.Nat.{mul-div_cancel}
-use Rattle.std.proofs.lemmas.List.{append-nil, drop-drop, drop_all, get_or-map, take_all}
+use Rattle.std.proofs.lemmas.List.{append-nil, drop-drop, drop_all, get_or-map, get_or-replicate, take_all}
 use Rattle.std.proofs.lemmas.Slice.{take-put_mid}
 use borrow.Rule.Slice.PartMut.{put_mid}
 use Rattle.wdf_algebra.specs.Pieces.{pieces}
@@ -15,14 +15,17 @@ use Rattle.wdf_law.specs.Run.{at_rest, at_end}
 use Rattle.wdf_law.specs.OutputRule.{load_wave}
 use Rattle.wdf_law.specs.Solved.{solved_run}
 use Rattle.wdf_bounds.specs.Plans.{PlanOf}
+use Rattle.wdf_energy.specs.Accounts.{AccountOf, LedgerOf, opened}
 use Rattle.wdf_tree.specs.Engines.{EngineValue, state_of}
 use Rattle.wdf_lattice.specs.declared.networks.Networks.{Networks}
 use Rattle.wdf_lattice.specs.declared.networks.Networks.TheVariants.{Ladder, Lattice}
+use Rattle.wdf_lattice.specs.declared.side_runs.SideRuns.{SideRuns}
 use Rattle.wdf_lattice.specs.Sides.{sources_driven}
 use Rattle.wdf_lattice.specs.Waves.{Family, frames_of, inputs_for, samples_for, wave_in, wave_at}
 use Rattle.wdf_lattice.specs.SolvedWaves.{States, of_side, solved_family, states_behind, waves_from}
-use Rattle.wdf_lattice.specs.Runners.{RunOver, AreAtRest, states_by}
-use Rattle.wdf_lattice.specs.RunEngines.{AreEngines, AreFresh, AreFirst, AreSecond, HaveEngines, StepEach, engine_states, step_from, wave_of, difference_of, waves_each}
+use Rattle.wdf_lattice.specs.Runners.{RunOver, AreAtRest, AreOpened, states_by}
+use Rattle.wdf_lattice.specs.RunLedgers.{AreFirst, AreSecond, HoldAll, IsNewLedger, ledger_accounts}
+use Rattle.wdf_lattice.specs.RunEngines.{AreEngines, AreFresh, HaveEngines, StepEach, engine_states, step_from, wave_of, difference_of, waves_each}
 use Rattle.wdf_lattice.proofs.CutLemmas.{cut}
 use Rattle.wdf_lattice.proofs.FrameLemmas.{interleaved-same}
 use Rattle.wdf_lattice.proofs.WaveLemmas.{waves-append, states-append}
@@ -74,11 +77,11 @@ over_more ns guard runs zs ys us xs fs ws vs front next = record {
 -- ---- one frame
 
 -- an engine to read lists by
-idle : Network → PlanOf → EngineValue
+pub idle : Network → PlanOf → EngineValue
 idle n plan = record { net = n; plan = plan; done = 0; downs = [] }
 
 -- the states of a run's engine, in the list of all
-state_at : (engines : List EngineValue) (run : ℕ) (d : EngineValue) → run < length engines → get_or (map state_of engines) run [] ≡ state_of (get_or engines run d)
+pub state_at : (engines : List EngineValue) (run : ℕ) (d : EngineValue) → run < length engines → get_or (map state_of engines) run [] ≡ state_of (get_or engines run d)
 state_at engines run d inside = get_or-map state_of engines run d [] inside
 
 -- the values of all runs in one frame
@@ -166,20 +169,37 @@ pieces_more {X = X} (suc count) size xs =
 
 -- ---- the beginning
 
-pub all_engines : (ns : Networks) (plan : PlanOf) (runs : ℕ) (first second : List EngineValue) → AreFirst ns plan runs first → AreSecond ns plan runs second → HaveEngines ns plan 0 runs first second
-all_engines (Ladder n) plan runs first second f s = f.engines_are
-all_engines (Lattice a b) plan runs first second f s = (f.engines_are, s.engines_are)
+pub all_engines : (ns : Networks) (plan : PlanOf) (runs : ℕ) (first second : SideRuns) → AreFirst ns plan runs first → AreSecond ns plan runs second
+    → HaveEngines ns plan 0 runs first.engines.items second.engines.items
+all_engines (Ladder n) plan runs first second f s = f.engines.engines_are
+all_engines (Lattice a b) plan runs first second f s = (f.engines.engines_are, s.engines.engines_are)
+
+pub all_accounts : (ns : Networks) (plan : PlanOf) (runs : ℕ) (first second : SideRuns) → AreFirst ns plan runs first → AreSecond ns plan runs second → HoldAll ns plan 0 runs first second
+all_accounts (Ladder n) plan runs first second f s = f.accounts
+all_accounts (Lattice a b) plan runs first second f s = (f.accounts, s.accounts)
 
 fresh_at : (n : Network) (plan : PlanOf) (runs : ℕ) (engines : List EngineValue) → AreFresh n plan runs engines → (run : ℕ) → run < runs → get_or (map state_of engines) run [] ≡ at_rest n
 fresh_at n plan runs engines are run few = let long = are.engines_are.long in state_at engines run (idle n plan) (omega arith) ∙ are.states_are (idle n plan) run few
 
-pub all_rest : (ns : Networks) (plan : PlanOf) (runs : ℕ) (first second : List EngineValue) → AreFirst ns plan runs first → AreSecond ns plan runs second → AreAtRest ns runs (engine_states ns first second)
-all_rest (Ladder n) plan runs first second f s Whole run few = fresh_at n plan runs first f run few
+pub all_rest : (ns : Networks) (plan : PlanOf) (runs : ℕ) (first second : SideRuns) → AreFirst ns plan runs first → AreSecond ns plan runs second
+    → AreAtRest ns runs (engine_states ns first.engines.items second.engines.items)
+all_rest (Ladder n) plan runs first second f s Whole run few = fresh_at n plan runs first.engines.items f.engines run few
 all_rest (Ladder n) plan runs first second f s A run few = refl
 all_rest (Ladder n) plan runs first second f s B run few = refl
 all_rest (Lattice a b) plan runs first second f s Whole run few = refl
-all_rest (Lattice a b) plan runs first second f s A run few = fresh_at a plan runs first f run few
-all_rest (Lattice a b) plan runs first second f s B run few = fresh_at b plan runs second s run few
+all_rest (Lattice a b) plan runs first second f s A run few = fresh_at a plan runs first.engines.items f.engines run few
+all_rest (Lattice a b) plan runs first second f s B run few = fresh_at b plan runs second.engines.items s.engines run few
+
+new_at : (n : Network) (runs run : ℕ) (l : LedgerOf) → IsNewLedger n runs l → run < runs → get_or l.accounts run (opened n) ≡ opened n
+new_at n runs run l new few = ap (λ (xs : List AccountOf). get_or xs run (opened n)) new.accounts ∙ get_or-replicate runs run (opened n) (opened n) few
+
+pub all_new : (ns : Networks) (plan : PlanOf) (runs : ℕ) (first second : SideRuns) → AreFirst ns plan runs first → AreSecond ns plan runs second → AreOpened ns runs (ledger_accounts ns first second)
+all_new (Ladder n) plan runs first second f s Whole run few = new_at n runs run first.ledger f.ledger few
+all_new (Ladder n) plan runs first second f s A run few = refl
+all_new (Ladder n) plan runs first second f s B run few = refl
+all_new (Lattice a b) plan runs first second f s Whole run few = refl
+all_new (Lattice a b) plan runs first second f s A run few = new_at a runs run first.ledger f.ledger few
+all_new (Lattice a b) plan runs first second f s B run few = new_at b runs run second.ledger s.ledger few
 
 -- the frames of so many frames' samples are as many pieces
 pub frames_pieces : (ns : Networks) (runs sources count : ℕ) (samples : List ℤ) → 0 < runs * sources → sources ≡ sources_driven ns → length samples ≡ count * (runs * sources)

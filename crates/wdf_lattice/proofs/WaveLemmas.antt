@@ -20,7 +20,7 @@ use Rattle.wdf_lattice.specs.SolvedWaves.{States, solved_family, states_behind, 
 use Rattle.wdf_lattice.proofs.FrameLemmas.{interleaved-append, interleaved-same}
 use Rattle.wdf_lattice.proofs.RunLemmas.{run-append, end-append, length-run, wave_in-front, wave_in-behind}
 
-inputs-append : (ns : Networks) (guard run : ℕ) (n : Network) (xs ys : List (List ℤ))
+pub inputs-append : (ns : Networks) (guard run : ℕ) (n : Network) (xs ys : List (List ℤ))
     → inputs_for ns guard run n (xs ++ ys) ≡ inputs_for ns guard run n xs ++ inputs_for ns guard run n ys
 inputs-append ns guard run n xs ys =
     let pick = samples_for (sources_driven ns) run in

@@ -1,8 +1,12 @@
 pub mod RunEngines
+pub mod RunLedgers
 pub mod RunnerLaws
 pub mod Runners
+pub mod SideAccounts
 pub mod Sides
 pub mod SolvedWaves
+pub mod TotalLaws
 pub mod WaveLaws
 pub mod Waves
+pub mod WorkedAccounts
 pub mod WorkedWaves

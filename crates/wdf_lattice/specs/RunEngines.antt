@@ -1,19 +1,19 @@
 -- The engines of runs, one for each run of a side.
-use Rattle.std.specs.Prelude.{◌≡◌, ℕ, ◌+◌, ◌<◌, ◌≤◌, ℤ, ◌-ℤ◌, List, length, map, get_or}
+use Rattle.std.specs.Prelude.{◌≡◌, ℕ, ◌+◌, ◌<◌, ℤ, pos, ◌-ℤ◌, List, length, map, replicate, get_or}
 use Rattle.std.specs.List.{range_with_len}
-use Rattle.wdf_law.specs.Network.{Network}
-use Rattle.wdf_law.specs.Step.{Frame, after}
+use Rattle.wdf_law.specs.Network.{Network, elements}
+use Rattle.wdf_law.specs.Step.{Frame, sent_in, after}
 use Rattle.wdf_law.specs.Run.{states, at_rest}
 use Rattle.wdf_law.specs.OutputRule.{drive, load_wave}
 use Rattle.wdf_law.specs.Solved.{solved}
 use Rattle.wdf_bounds.specs.Plans.{PlanOf}
 use Rattle.wdf_tree.specs.Engines.{EngineValue, state_of}
+use Rattle.wdf_tree.specs.Places.{at_place}
 use Rattle.wdf_lattice.specs.declared.networks.Networks.{Networks}
 use Rattle.wdf_lattice.specs.declared.networks.Networks.TheVariants.{Ladder, Lattice}
-use Rattle.wdf_lattice.specs.Sides.{sources_driven}
 use Rattle.wdf_lattice.specs.Waves.{samples_for}
 use Rattle.wdf_lattice.specs.SolvedWaves.{States}
-use Rattle.wdf_lattice.specs.Runners.{DriveAll, states_by}
+use Rattle.wdf_lattice.specs.Runners.{states_by}
 
 -- an engine of this network and plan, with so many frames done
 pub record IsEngineFor (n : Network) (plan : PlanOf) (count : ℕ) (a : EngineValue) : Type 0 where
@@ -30,35 +30,16 @@ pub record AreEngines (n : Network) (plan : PlanOf) (count runs : ℕ) (engines 
 pub record AreFresh (n : Network) (plan : PlanOf) (runs : ℕ) (engines : List EngineValue) : Type 0 where
   pub engines_are : AreEngines n plan 0 runs engines
   pub states_are : (d : EngineValue) (run : ℕ) → run < runs → state_of (get_or engines run d) ≡ at_rest n
+  pub downs_are : (d : EngineValue) (run : ℕ) → run < runs → (get_or engines run d).downs ≡ replicate (length (elements n)) (pos 0)
 
 -- of each network: the first list for a ladder's or branch A's, the second for branch B's
 abbrev pub HaveEngines : Networks → PlanOf → (count runs : ℕ) → (first second : List EngineValue) → Type 0
 HaveEngines (Ladder n) plan count runs first second = AreEngines n plan count runs first
 HaveEngines (Lattice a b) plan count runs first second = AreEngines a plan count runs first × AreEngines b plan count runs second
 
--- those of all runs at rest, list by list
-abbrev pub AreFirst : Networks → PlanOf → (runs : ℕ) → List EngineValue → Type 0
-AreFirst (Ladder n) plan runs first = AreFresh n plan runs first
-AreFirst (Lattice a b) plan runs first = AreFresh a plan runs first
-
-abbrev pub AreSecond : Networks → PlanOf → (runs : ℕ) → List EngineValue → Type 0
-AreSecond (Ladder n) plan runs second = Unit {0}
-AreSecond (Lattice a b) plan runs second = AreFresh b plan runs second
-
 -- their states by side and run
 abbrev pub engine_states : Networks → (first second : List EngineValue) → States
 engine_states ns first second = states_by ns (map state_of first) (map state_of second)
-
--- what the type of a runner keeps, by its fields
-pub record IsRunner (ns : Networks) (plan : PlanOf) (runs sources count : ℕ) (first second : List EngineValue) : Type 0 where
-  pub some_run : 1 ≤ runs
-  pub few_runs : runs ≤ 8
-  pub some_source : 1 ≤ sources
-  pub few_sources : sources ≤ 8
-  pub sources_are : sources ≡ sources_driven ns
-  pub driven : DriveAll ns runs
-  pub engines : HaveEngines ns plan count runs first second
-  pub frames : count ≤ plan.frames
 
 -- ---- one frame
 
@@ -75,6 +56,8 @@ pub record StepEach (n : Network) (plan : PlanOf) (count runs sources : ℕ) (fr
   pub engines : AreEngines n plan (count + 1) runs behind
   pub states_are : (d : EngineValue) (run : ℕ) → run < runs
       → state_of (get_or behind run d) ≡ after n (step_of n plan sources frame (get_or before run d) run)
+  pub downs_are : (d : EngineValue) (run : ℕ) → run < runs → (j : ℕ) → j < length (elements n)
+      → at_place (get_or behind run d).downs j ≡ sent_in n (step_of n plan sources frame (get_or before run d) run) j
 
 -- the load wave of a run's engine in it
 abbrev pub wave_of : Network → PlanOf → (sources : ℕ) → List ℤ → List EngineValue → EngineValue → ℕ → ℤ

@@ -1,5 +1,5 @@
 -- The runs of a runner: what their networks, their plan and their states are, and how they go on over whole frames.
-use Rattle.std.specs.Prelude.{◌≡◌, ℕ, ◌+◌, ◌*◌, ◌<◌, ◌≤◌, ◌⊎◌, ℤ, List, [], length, get_or, refl}
+use Rattle.std.specs.Prelude.{◌≡◌, ℕ, ◌+◌, ◌*◌, ◌<◌, ◌≤◌, ◌⊎◌, ℤ, List, [], Option, length, get_or, refl}
 use Rattle.std.specs.Coded.{Coded, code_by, coded×, coded⊎, coded_ℕ, coded_ℤ, coded_list}
 use mathlib.Core.Logic.{inl, inr}
 use Rattle.wdf_law.specs.declared.side.Side.{Side}
@@ -8,10 +8,13 @@ use Rattle.wdf_law.specs.Network.{Network, source_numbers}
 use Rattle.wdf_law.specs.NetworkCode.{network_code}
 use Rattle.wdf_bounds.specs.Plans.{PlanOf}
 use Rattle.wdf_bounds.specs.WordBound.{Fits}
+use Rattle.wdf_energy.specs.declared.totals.Totals.{Totals}
+use Rattle.wdf_energy.specs.Accounts.{AccountOf, opened, account_code}
 use Rattle.wdf_lattice.specs.declared.networks.Networks.{Networks}
 use Rattle.wdf_lattice.specs.declared.networks.Networks.TheVariants.{Ladder, Lattice}
 use Rattle.wdf_lattice.specs.Waves.{frames_of}
 use Rattle.wdf_lattice.specs.SolvedWaves.{States, all_at_rest, states_behind, waves_from}
+use Rattle.wdf_lattice.specs.SideAccounts.{Accounts, no_account, all_opened, accounts_behind, totals_with}
 
 -- ---- what runs
 
@@ -35,6 +38,9 @@ pub record RunnerValue : Type 0 where
   -- the states of each run: those of a ladder's network or of branch A, and those of branch B
   pub first : List (List ℤ)
   pub second : List (List ℤ)
+  -- and their accounts
+  pub first_accounts : List AccountOf
+  pub second_accounts : List AccountOf
 
 -- the states by side and run, nothing where the form has no such side
 abbrev pub states_by : Networks → (first second : List (List ℤ)) → States
@@ -48,11 +54,31 @@ states_by (Lattice a b) first second B run = get_or second run []
 abbrev pub states_of : RunnerValue → States
 states_of r = states_by r.networks r.first r.second
 
+-- the accounts by side and run
+abbrev pub accounts_by : Networks → (first second : List AccountOf) → Accounts
+accounts_by (Ladder n) first second Whole run = get_or first run (opened n)
+accounts_by (Ladder n) first second A run = no_account
+accounts_by (Ladder n) first second B run = no_account
+accounts_by (Lattice a b) first second Whole run = no_account
+accounts_by (Lattice a b) first second A run = get_or first run (opened a)
+accounts_by (Lattice a b) first second B run = get_or second run (opened b)
+
+abbrev pub accounts_of : RunnerValue → Accounts
+accounts_of r = accounts_by r.networks r.first_accounts r.second_accounts
+
+-- the totals of a run, nothing where there is no such side or run
+abbrev pub totals_by : RunnerValue → Side → ℕ → Option Totals
+totals_by r = totals_with r.networks r.runs (accounts_of r)
+
 -- ---- how runs go on
 
 -- these runs' states are those at rest
 abbrev pub AreAtRest : Networks → (runs : ℕ) → States → Type 0
 AreAtRest ns runs zs = (side : Side) (run : ℕ) → run < runs → zs side run ≡ all_at_rest ns side run
+
+-- their accounts have no frame
+abbrev pub AreOpened : Networks → (runs : ℕ) → Accounts → Type 0
+AreOpened ns runs accounts = (side : Side) (run : ℕ) → run < runs → accounts side run ≡ all_opened ns side run
 
 -- frames take the runs from the states zs to the states ys, with these load waves
 pub record RunOver (ns : Networks) (guard runs : ℕ) (zs ys : States) (frames : List (List ℤ)) (waves : List ℤ) : Type 0 where
@@ -62,6 +88,15 @@ pub record RunOver (ns : Networks) (guard runs : ℕ) (zs ys : States) (frames :
 -- and so do the frames of these samples
 abbrev pub RunsOn : Networks → (guard runs : ℕ) → (zs ys : States) → (samples waves : List ℤ) → Type 0
 RunsOn ns guard runs zs ys samples waves = RunOver ns guard runs zs ys (frames_of ns runs samples) waves
+
+-- frames made from the states zs take the runs' accounts from before to behind
+abbrev pub NoteOver : Networks → (guard runs : ℕ) → (zs : States) → (before behind : Accounts) → (frames : List (List ℤ)) → Type 0
+NoteOver ns guard runs zs before behind frames =
+    (side : Side) (run : ℕ) → run < runs → behind side run ≡ accounts_behind ns guard zs before frames side run
+
+-- and so do the frames of these samples
+abbrev pub NotesOn : Networks → (guard runs : ℕ) → (zs : States) → (before behind : Accounts) → (samples : List ℤ) → Type 0
+NotesOn ns guard runs zs before behind samples = NoteOver ns guard runs zs before behind (frames_of ns runs samples)
 
 -- samples of so many frames, and as many load waves
 pub record AreFrames (runs sources count : ℕ) (samples waves : List ℤ) : Type 0 where
@@ -79,6 +114,7 @@ pub record IsBegun (r : RunnerValue) (ns : Networks) (plans : PlanOf) (count : �
   pub runs_are : r.runs ≡ count
   pub none_done : r.done ≡ 0
   pub rest : AreAtRest ns count (states_of r)
+  pub accounts_are : AreOpened ns count (accounts_of r)
 
 -- ---- the code that the model of its type wants
 
@@ -109,11 +145,14 @@ coded_plan = coded× coded_ℕ (coded× coded_ℕ (coded× coded_ℕ (coded× co
 abbrev pub coded_states : Coded (List (List ℤ))
 coded_states = coded_list (coded_list coded_ℤ)
 
+abbrev pub coded_accounts : Coded (List AccountOf)
+coded_accounts = coded_list account_code
+
 abbrev pub RunnerParts : Type 0
-RunnerParts = Networks × (PlanParts × (ℕ × (ℕ × (List (List ℤ) × List (List ℤ)))))
+RunnerParts = Networks × (PlanParts × (ℕ × (ℕ × (List (List ℤ) × (List (List ℤ) × (List AccountOf × List AccountOf))))))
 
 abbrev pub runner_parts : RunnerValue → RunnerParts
-runner_parts r = (r.networks, ((r.plan.k, (r.plan.guard, (r.plan.shift, (r.plan.frames, (r.plan.amp, r.plan.bits))))), (r.runs, (r.done, (r.first, r.second)))))
+runner_parts r = (r.networks, ((r.plan.k, (r.plan.guard, (r.plan.shift, (r.plan.frames, (r.plan.amp, r.plan.bits))))), (r.runs, (r.done, (r.first, (r.second, (r.first_accounts, r.second_accounts)))))))
 
 abbrev pub runner_from : RunnerParts → RunnerValue
 runner_from p = record {
@@ -122,8 +161,10 @@ runner_from p = record {
   runs = p.1.1.0;
   done = p.1.1.1.0;
   first = p.1.1.1.1.0;
-  second = p.1.1.1.1.1;
+  second = p.1.1.1.1.1.0;
+  first_accounts = p.1.1.1.1.1.1.0;
+  second_accounts = p.1.1.1.1.1.1.1;
 }
 
 abbrev pub runner_code : Coded RunnerValue
-runner_code = code_by RunnerParts (coded× networks_code (coded× coded_plan (coded× coded_ℕ (coded× coded_ℕ (coded× coded_states coded_states))))) runner_parts runner_from (λ _. refl)
+runner_code = code_by RunnerParts (coded× networks_code (coded× coded_plan (coded× coded_ℕ (coded× coded_ℕ (coded× coded_states (coded× coded_states (coded× coded_accounts coded_accounts))))))) runner_parts runner_from (λ _. refl)

@@ -1,67 +1,50 @@
-// The engines of runs, one for each run of a side: their beginning, and their steps over frames.
+// The runs of all networks: their beginning, and their steps over frames.
 ghost use Rattle.std.specs.Prelude.{◌≡◌, ℕ, ◌+◌, ◌*◌, ◌-ℤ◌, ◌<◌, ◌≤◌, ◌^◌, ◌∷◌, [], length, unsigned_abs, All, IfOk};
 ghost use Rattle.wdf_law.specs.Network.{source_numbers};
 ghost use Rattle.wdf_tree.specs.Engines.{EngineValue};
 ghost use Rattle.wdf_bounds.specs.WordBound.{Fits};
 ghost use Rattle.wdf_lattice.specs.Sides.{sources_driven};
-ghost use Rattle.wdf_lattice.specs.Runners.{FitsEach, DriveAll, IsBlock, RunOver, RunsOn};
-ghost use Rattle.wdf_lattice.specs.RunEngines.{AreEngines, AreFresh, AreFirst, AreSecond, IsRunner, HaveEngines, StepEach, engine_states, wave_of, difference_of, waves_each};
+ghost use Rattle.wdf_lattice.specs.Runners.{FitsEach, DriveAll, IsBlock, NoteOver, NotesOn, RunOver, RunsOn};
+ghost use Rattle.wdf_lattice.specs.RunEngines.{AreEngines, HaveEngines, StepEach, engine_states, wave_of, difference_of, waves_each};
+ghost use Rattle.wdf_lattice.specs.RunLedgers.{AreFirst, AreSecond, HoldAll, HoldsEach, IsRunner, TakesFrame, ledger_accounts};
 
 use crate::Networks;
+use crate::side_runs::{SideRuns, note_frame, runs_at_rest};
 use std::alloc::{AllocError, Global};
 use wdf_bounds::Plan;
 use wdf_law::Net;
 use wdf_law::laws::one_step;
 use wdf_tree::TreeEngine;
 
-/// Engines at rest, one for each run.
-pub(crate) fn engines_at_rest(
-    alloc: Global,
-    net: &Net,
-    plan: Plan,
-    runs: usize,
-) -> Result<Vec<TreeEngine>, AllocError>
-    requires { Fits net.now plan }
-    ensures { IfOk result (λ v. AreFresh net.now plan runs v.items) }
-{
-    let mut engines = Vec::new(alloc);
-    for _ in 0..runs {
-        let copy = net.copy(alloc)?;
-        let engine = TreeEngine::new(alloc, copy, plan)?;
-        engines.push(engine)?;
-    }
-    Ok(engines)
-}
-
-/// Engines of a ladder's network, or of branch A's, at rest.
+/// The runs of a ladder's network, or of branch A's, at rest.
 pub(crate) fn first_at_rest(
     alloc: Global,
     networks: &Networks,
     plan: Plan,
     runs: usize,
-) -> Result<Vec<TreeEngine>, AllocError>
+) -> Result<SideRuns, AllocError>
     requires { FitsEach networks.now plan }
-    ensures { IfOk result (λ v. AreFirst networks.now plan runs v.items) }
+    ensures { IfOk result (AreFirst networks.now plan runs) }
 {
     match networks {
-        Networks::Ladder(net) => engines_at_rest(alloc, net, plan, runs),
-        Networks::Lattice { a, .. } => engines_at_rest(alloc, a, plan, runs),
+        Networks::Ladder(net) => runs_at_rest(alloc, net, plan, runs),
+        Networks::Lattice { a, .. } => runs_at_rest(alloc, a, plan, runs),
     }
 }
 
-/// Engines of branch B's network at rest; a ladder has none.
+/// The runs of branch B's network at rest; a ladder has none.
 pub(crate) fn second_at_rest(
     alloc: Global,
     networks: &Networks,
     plan: Plan,
     runs: usize,
-) -> Result<Vec<TreeEngine>, AllocError>
+) -> Result<SideRuns, AllocError>
     requires { FitsEach networks.now plan }
-    ensures { IfOk result (λ v. AreSecond networks.now plan runs v.items) }
+    ensures { IfOk result (AreSecond networks.now plan runs) }
 {
     match networks {
-        Networks::Ladder(_) => Ok(Vec::new(alloc)),
-        Networks::Lattice { b, .. } => engines_at_rest(alloc, b, plan, runs),
+        Networks::Ladder(net) => runs_at_rest(alloc, net, plan, 0),
+        Networks::Lattice { b, .. } => runs_at_rest(alloc, b, plan, runs),
     }
 }
 
@@ -130,30 +113,110 @@ fn step_lattice(
     }
 }
 
-/// All runs make one frame: each run's networks take its samples and give its load wave.
+// The runs of a ladder make one frame, and its ledger notes it.
+fn frame_of_ladder(
+    net: &Net,
+    plan: Plan,
+    done: u32,
+    sources: usize,
+    side: &mut SideRuns,
+    frame: &[i64],
+    waves: &mut [i64],
+)
+    requires fits { Fits net.now plan }
+    requires engines { AreEngines net.now plan done (length waves.old) side.old.engines.items }
+    requires accounts { HoldsEach net.now plan done (length waves.old) side.old.engines.items side.old.ledger }
+    requires room { done < plan.frames }
+    requires sources { sources ≡ length (source_numbers net.now) }
+    requires frame { length frame.now ≡ length waves.old * sources }
+    requires amplitude { All (λ s. unsigned_abs s ≤ plan.amp) frame.now }
+    ensures step { StepEach net.now plan done (length waves.old) sources frame.now side.old.engines.items side.new.engines.items }
+    ensures waves { (d : EngineValue) → waves.new ≡ waves_each (wave_of net.now plan sources frame.now side.old.engines.items d) (length waves.old) }
+    ensures accounts { TakesFrame net.now plan done (length waves.old) sources frame.now side.old.engines.items side.new.engines.items side.old.ledger side.new.ledger }
+{
+    step_ladder(net, plan, done, sources, &mut side.engines, frame, waves);
+    note_frame(
+        net,
+        plan,
+        done,
+        sources,
+        &side.engines,
+        &mut side.ledger,
+        frame,
+    );
+}
+
+// The runs of both branches of a lattice make one frame, and the ledger of each notes it.
+fn frame_of_lattice(
+    a: &Net,
+    b: &Net,
+    plan: Plan,
+    done: u32,
+    first: &mut SideRuns,
+    second: &mut SideRuns,
+    frame: &[i64],
+    waves: &mut [i64],
+)
+    requires fits { Fits a.now plan × Fits b.now plan }
+    requires first { AreEngines a.now plan done (length waves.old) first.old.engines.items }
+    requires second { AreEngines b.now plan done (length waves.old) second.old.engines.items }
+    requires first_accounts { HoldsEach a.now plan done (length waves.old) first.old.engines.items first.old.ledger }
+    requires second_accounts { HoldsEach b.now plan done (length waves.old) second.old.engines.items second.old.ledger }
+    requires room { done < plan.frames }
+    requires one_source { (length (source_numbers a.now) ≡ 1) × (length (source_numbers b.now) ≡ 1) }
+    requires frame { length frame.now ≡ length waves.old }
+    requires amplitude { All (λ s. unsigned_abs s ≤ plan.amp) frame.now }
+    ensures first { StepEach a.now plan done (length waves.old) 1 frame.now first.old.engines.items first.new.engines.items }
+    ensures second { StepEach b.now plan done (length waves.old) 1 frame.now second.old.engines.items second.new.engines.items }
+    ensures waves { (d : EngineValue) → waves.new ≡ waves_each (difference_of a.now b.now plan frame.now first.old.engines.items second.old.engines.items d) (length waves.old) }
+    ensures first_accounts { TakesFrame a.now plan done (length waves.old) 1 frame.now first.old.engines.items first.new.engines.items first.old.ledger first.new.ledger }
+    ensures second_accounts { TakesFrame b.now plan done (length waves.old) 1 frame.now second.old.engines.items second.new.engines.items second.old.ledger second.new.ledger }
+{
+    step_lattice(
+        a,
+        b,
+        plan,
+        done,
+        &mut first.engines,
+        &mut second.engines,
+        frame,
+        waves,
+    );
+    note_frame(a, plan, done, 1, &first.engines, &mut first.ledger, frame);
+    note_frame(b, plan, done, 1, &second.engines, &mut second.ledger, frame);
+}
+
+/// All runs make one frame: each run's networks take its samples and give its load wave, and its
+/// accounts note it.
 pub(crate) fn step_frame(
     networks: &Networks,
     plan: Plan,
     done: &mut u32,
     sources: usize,
-    first: &mut Vec<TreeEngine>,
-    second: &mut Vec<TreeEngine>,
+    first: &mut SideRuns,
+    second: &mut SideRuns,
     frame: &[i64],
     waves: &mut [i64],
 )
-    requires engines { HaveEngines networks.now plan done.old (length waves.old) first.old.items second.old.items }
+    requires fits { FitsEach networks.now plan }
+    requires engines { HaveEngines networks.now plan done.old (length waves.old) first.old.engines.items second.old.engines.items }
+    requires accounts { HoldAll networks.now plan done.old (length waves.old) first.old second.old }
     requires room { done.old < plan.frames }
     requires driven { DriveAll networks.now (length waves.old) }
     requires sources { sources ≡ sources_driven networks.now }
     requires frame { length frame.now ≡ length waves.old * sources }
     requires amplitude { All (λ s. unsigned_abs s ≤ plan.amp) frame.now }
-    ensures engines { HaveEngines networks.now plan done.new (length waves.old) first.new.items second.new.items }
+    ensures engines { HaveEngines networks.now plan done.new (length waves.old) first.new.engines.items second.new.engines.items }
+    ensures accounts { HoldAll networks.now plan done.new (length waves.old) first.new second.new }
     ensures done { done.new ≡ done.old + 1 }
-    ensures over { RunOver networks.now plan.guard (length waves.old) (engine_states networks.now first.old.items second.old.items) (engine_states networks.now first.new.items second.new.items) (frame.now ∷ []) waves.new }
+    ensures over { RunOver networks.now plan.guard (length waves.old) (engine_states networks.now first.old.engines.items second.old.engines.items) (engine_states networks.now first.new.engines.items second.new.engines.items) (frame.now ∷ []) waves.new }
+    ensures noted { NoteOver networks.now plan.guard (length waves.old) (engine_states networks.now first.old.engines.items second.old.engines.items) (ledger_accounts networks.now first.old second.old) (ledger_accounts networks.now first.new second.new) (frame.now ∷ []) }
 {
     match networks {
-        Networks::Ladder(net) => step_ladder(net, plan, *done, sources, first, frame, waves),
-        Networks::Lattice { a, b } => step_lattice(a, b, plan, *done, first, second, frame, waves),
+        Networks::Ladder(net) => frame_of_ladder(net, plan, *done, sources, first, frame, waves),
+        Networks::Lattice { a, b } => {
+            frame_of_lattice(a, b, plan, *done, first, second, frame, waves)
+        }
     }
     *done += 1;
 }
@@ -165,16 +228,17 @@ pub(crate) fn run_frames(
     done: &mut u32,
     runs: usize,
     sources: usize,
-    first: &mut Vec<TreeEngine>,
-    second: &mut Vec<TreeEngine>,
+    first: &mut SideRuns,
+    second: &mut SideRuns,
     input: &[i64],
     output: &mut [i64],
 )
-    requires rules { IsRunner networks.now plan runs sources done.old first.old.items second.old.items }
+    requires rules { IsRunner networks.now plan runs sources done.old first.old second.old }
     requires frames { IsBlock runs sources done.old plan.frames input.now output.old }
     requires amplitude { All (λ s. unsigned_abs s ≤ plan.amp) input.now }
-    ensures rules { IsRunner networks.now plan runs sources done.new first.new.items second.new.items }
-    ensures on { RunsOn networks.now plan.guard runs (engine_states networks.now first.old.items second.old.items) (engine_states networks.now first.new.items second.new.items) input.now output.new }
+    ensures rules { IsRunner networks.now plan runs sources done.new first.new second.new }
+    ensures on { RunsOn networks.now plan.guard runs (engine_states networks.now first.old.engines.items second.old.engines.items) (engine_states networks.now first.new.engines.items second.new.engines.items) input.now output.new }
+    ensures accounts { NotesOn networks.now plan.guard runs (engine_states networks.now first.old.engines.items second.old.engines.items) (ledger_accounts networks.now first.old second.old) (ledger_accounts networks.now first.new second.new) input.now }
     ensures done { (count : ℕ) → length output.old ≡ count * runs → done.new ≡ done.old + count }
 {
     let size = runs * sources;

@@ -10,6 +10,7 @@ mod engines;
 pub mod laws;
 mod networks;
 mod runner;
+mod side_runs;
 
 pub use networks::Networks;
 pub use runner::Runner;

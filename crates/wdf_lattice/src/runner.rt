@@ -1,20 +1,22 @@
 ghost use Rattle.std.specs.Prelude.{◌≡◌, ℕ, ◌+◌, ◌*◌, ◌≤◌, length, unsigned_abs, All, IfOk};
 ghost use Rattle.wdf_lattice.specs.Sides.{sources_driven};
-ghost use Rattle.wdf_lattice.specs.Runners.{FitsEach, DriveAll, IsBegun, IsBlock, RunsOn, states_of};
+ghost use Rattle.wdf_lattice.specs.Runners.{FitsEach, DriveAll, IsBegun, IsBlock, NotesOn, RunsOn, accounts_of, states_of, totals_by};
 
 use crate::Networks;
 use crate::engines::{first_at_rest, run_frames, second_at_rest};
+use crate::side_runs::{SideRuns, run_totals};
 use std::alloc::{AllocError, Global};
 use std::marker::Model;
 use wdf_bounds::Plan;
-use wdf_tree::TreeEngine;
+use wdf_energy::Totals;
+use wdf_law::Side;
 
 /// The runs of a netlist's networks over whole frames of samples, from rest and however frames are
 /// cut into blocks: with one source a run for each channel, each with states of its own, and with
-/// several one run that is driven by all channels.
+/// several one run that is driven by all channels. A ledger tells where the energy of each went.
 ///
-/// It keeps that there are 1 to 8 runs, that they drive every source of its networks, and that no
-/// more frames are done than its plan has.
+/// It keeps that there are 1 to 8 runs, that they drive every source of its networks, that its plan
+/// fits them and no more frames are done than it has, and that the accounts hold all frames done.
 #[derive(Drop)]
 pub struct Runner {
     networks: Networks,
@@ -22,9 +24,9 @@ pub struct Runner {
     runs: usize,
     // The samples that a run takes in each frame.
     sources: usize,
-    // An engine for each run: of a ladder's network or branch A's, and of branch B's.
-    first: Vec<TreeEngine>,
-    second: Vec<TreeEngine>,
+    // The runs of a ladder's network or branch A's, and those of branch B's.
+    first: SideRuns,
+    second: SideRuns,
     done: u32,
 }
 
@@ -37,11 +39,11 @@ impl Model for Runner {
 
     ghost use Rattle.std.specs.Prelude.{map};
     ghost use Rattle.wdf_tree.specs.Engines.{state_of};
-    ghost use Rattle.wdf_lattice.specs.RunEngines.{IsRunner};
+    ghost use Rattle.wdf_lattice.specs.RunLedgers.{IsRunner};
 
-    ghost view = { λ r. record { networks = r.networks; plan = r.plan; runs = r.runs; done = r.done; first = map state_of r.first.items; second = map state_of r.second.items } };
+    ghost view = { λ r. record { networks = r.networks; plan = r.plan; runs = r.runs; done = r.done; first = map state_of r.first.engines.items; second = map state_of r.second.engines.items; first_accounts = r.first.ledger.accounts; second_accounts = r.second.ledger.accounts } };
 
-    ghost invariant = { λ r. IsRunner r.networks r.plan r.runs r.sources r.done r.first.items r.second.items };
+    ghost invariant = { λ r. IsRunner r.networks r.plan r.runs r.sources r.done r.first r.second };
 }
 
 impl Runner {
@@ -88,6 +90,7 @@ impl Runner {
         requires frames { IsBlock self.old.runs (sources_driven self.old.networks) self.old.done self.old.plan.frames input.now output.old }
         requires amplitude { All (λ s. unsigned_abs s ≤ self.old.plan.amp) input.now }
         ensures on { RunsOn self.old.networks self.old.plan.guard self.old.runs (states_of self.old) (states_of self.new) input.now output.new }
+        ensures accounts { NotesOn self.old.networks self.old.plan.guard self.old.runs (states_of self.old) (accounts_of self.old) (accounts_of self.new) input.now }
         ensures done { (count : ℕ) → length output.old ≡ count * self.old.runs → self.new.done ≡ self.old.done + count }
         ensures networks { self.new.networks ≡ self.old.networks }
         ensures plan { self.new.plan ≡ self.old.plan }
@@ -104,6 +107,28 @@ impl Runner {
             input,
             output,
         );
+    }
+
+    /// Where the energy of a run's frames went, in the network of a side; None exactly where the
+    /// form has no such side, or there is no such run.
+    pub fn totals(&self, side: Side, run: usize) -> Option<Totals>
+        ensures { result ≡ totals_by self.now side run }
+    {
+        if run >= self.runs {
+            return None;
+        }
+        match (&self.networks, side) {
+            (Networks::Ladder(net), Side::Whole) => {
+                Some(run_totals(net, self.plan, self.done, &self.first, run))
+            }
+            (Networks::Lattice { a, .. }, Side::A) => {
+                Some(run_totals(a, self.plan, self.done, &self.first, run))
+            }
+            (Networks::Lattice { b, .. }, Side::B) => {
+                Some(run_totals(b, self.plan, self.done, &self.second, run))
+            }
+            _ => None,
+        }
     }
 
     /// The networks that run.

@@ -4,7 +4,7 @@ use Rattle.wdf_law.specs.Network.{Network}
 use Rattle.wdf_tree.specs.Engines.{IsFresh}
 use Rattle.wdf_lattice.specs.RunEngines.{AreFresh}
 use Rattle.wdf_lattice.proofs.EngineLemmas.{fresh_more}
-use Rattle.wdf_lattice.proofs.engines.engines_at_rest.Goals as goal
+use Rattle.wdf_lattice.proofs.side_runs.engines_at_rest.Goals as goal
 
 pub loop-preserved : goal.loop-preserved
 loop-preserved c =
