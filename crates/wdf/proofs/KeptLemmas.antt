@@ -21,7 +21,8 @@ use Rattle.wdf_tree.proofs.PassLemmas.{entry_small}
 use Rattle.wdf_wav.specs.Header.{IsFrameFormat, data_size}
 use Rattle.wdf_wav.specs.Laws.{CountsSamples}
 use Rattle.wdf_frames.specs.Setting.{Setting, AreWithin, runs_of, samples_in}
-use Rattle.wdf.specs.Runs.{OfEach, KeepsEach, HoldsEach, KeepEnergy, KeepWords, KeepsRuns, inputs_on}
+use Rattle.wdf_frames.specs.RunFacts.{inputs_on}
+use Rattle.wdf.specs.Runs.{OfEach, KeepsEach, HoldsEach, KeepEnergy, KeepWords, KeepsRuns}
 
 -- ---- a law of each network
 

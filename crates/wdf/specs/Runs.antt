@@ -1,30 +1,17 @@
 -- What holds of the runs of a wave that was filtered, besides what was written: of each run of each network, from rest,
 -- on the samples that were read. Kirchhoff's laws before each truncation are part of every step of such a run.
-use Rattle.std.specs.Prelude.{◌≡◌, ℕ, ◌<◌, ℤ, List, length, Some}
+use Rattle.std.specs.Prelude.{◌≡◌, ℕ, List, length, Some}
 use Rattle.wdf_law.specs.declared.side.Side.{Side}
 use Rattle.wdf_law.specs.Network.{Network}
-use Rattle.wdf_law.specs.Step.{Frame}
-use Rattle.wdf_law.specs.Run.{IsRun, at_rest}
 use Rattle.wdf_law.specs.Laws.{IsRunKept, KeepsEnergy}
 use Rattle.wdf_bounds.specs.Plans.{PlanOf}
 use Rattle.wdf_bounds.specs.HeldWords.{AreFramesWithin, HoldsWords}
 use Rattle.wdf_bounds.specs.WordBound.{Fits}
 use Rattle.wdf_lattice.specs.declared.networks.Networks.{Networks}
 use Rattle.wdf_lattice.specs.Sides.{network_at}
-use Rattle.wdf_lattice.specs.Waves.{frames_of, inputs_for}
 use Rattle.wdf_wav.specs.Header.{data_size}
-use Rattle.wdf_frames.specs.Setting.{Setting, runs_of, samples_in, AreWithin}
-
--- ---- the runs on the samples of a body of bytes
-
--- what a run's samples of a side send into its network, frame after frame
-abbrev pub inputs_on : Setting → List ℕ → (run : ℕ) → Network → List (ℕ → ℤ)
-inputs_on s body run n = inputs_for s.networks s.plan.guard run n (frames_of s.networks (runs_of s) (samples_in s body))
-
--- a fact of every run, by its network, its input and its steps
-abbrev pub OfEachRun : Setting → List ℕ → (fact : Network → List (ℕ → ℤ) → List Frame → Type 0) → Type 0
-OfEachRun s body fact = (side : Side) (n : Network) → network_at s.networks side ≡ Some n → (run : ℕ) → run < runs_of s
-    → (steps : List Frame) → IsRun n (at_rest n) (inputs_on s body run n) steps → fact n (inputs_on s body run n) steps
+use Rattle.wdf_frames.specs.Setting.{Setting, AreWithin}
+use Rattle.wdf_frames.specs.RunFacts.{OfEachRun}
 
 -- after each frame, what is stored and what was absorbed so far is at most what the sources sent in so far
 abbrev pub KeepEnergy : Setting → List ℕ → Type 0

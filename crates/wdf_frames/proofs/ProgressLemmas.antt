@@ -6,9 +6,9 @@ use Rattle.std.proofs.KnownBytes.{Consumes-trans, Appends-trans, Consumes-nil}
 use Rattle.std.proofs.lemmas.List.{map-append}
 use Rattle.std.proofs.lemmas.List.Elements.{All-append, All-nil, filter-append}
 use Rattle.wdf_law.specs.OutputRule.{output_of}
-use Rattle.wdf_lattice.specs.Runners.{states_of}
+use Rattle.wdf_lattice.specs.Runners.{states_of, accounts_of}
 use Rattle.wdf_lattice.specs.SolvedWaves.{waves_for}
-use Rattle.wdf_lattice.specs.RunnerLaws.{LeadsTo}
+use Rattle.wdf_lattice.specs.RunnerLaws.{LeadsTo, AreAccountsOf}
 use Rattle.wdf_lattice.specs.Sides.{sources_driven}
 use Rattle.wdf_loop.specs.Limiting.{is_limited}
 use Rattle.wdf_wav.specs.Header.{head_bytes_of}
@@ -16,7 +16,7 @@ use Rattle.wdf_wav.specs.PcmStream.{data_of}
 use Rattle.wdf_frames.specs.declared.round.Round.{Round}
 use Rattle.wdf_frames.specs.Setting.{Setting, AreSmall, AreWithin, read_size, runs_of, samples_in, written_head, down_of}
 use Rattle.wdf_frames.specs.Written.{IsResult, coded, limited_among}
-use Rattle.wdf_frames.specs.Progress.{HasLaws, HasRun, IsBegunRound, RunsFrames, WritesBlock, RanSoFar, data_for, solved_waves, next_count}
+use Rattle.wdf_frames.specs.Progress.{HasLaws, HasRun, IsBegunRound, RunsFrames, WritesBlock, RanSoFar, data_for, solved_waves, next_count, round_setting}
 use Rattle.wdf_frames.proofs.FrameLemmas.{length_samples, no_samples, samples_more}
 
 -- ---- what frames give, and what more frames give
@@ -62,6 +62,7 @@ has_begun s laws r begun = record {
   within = subst (AreSmall s) (sym (no_samples s laws.samples)) (All-nil (λ (z : ℤ). unsigned_abs z ≤ s.plan.amp));
   leads = rw (no_samples s laws.samples) (laws.goes_on.begins s.plan.guard (runs_of s) (states_of r.runner) (some_sample s laws) begun.rest);
   counted = begun.none_limited ∙ sym (ap (limited_among s) (no_waves s laws));
+  noted = rw (no_samples s laws.samples) (laws.goes_on.opens s.plan.guard (runs_of s) (accounts_of r.runner) (some_sample s laws) begun.none_noted);
 }
 
 pub has_run_more : (s : Setting) → HasLaws s → (body frames made : List ℕ) (old new : Round) (count : ℕ) → HasRun s body old → RunsFrames s old new frames made count → AreWithin s frames
@@ -82,6 +83,9 @@ has_run_more s laws body frames made old new count has run within =
           has.leads samples run.ran.on);
       counted = run.ran.limited ∙ (ap (λ (n : ℕ). n + limited_among s run.ran.waves) has.counted
           ∙ sym (ap (limited_among s) (waves_more s laws body frames made old new count has run) ∙ limited_more s (solved_waves s body) run.ran.waves));
+      noted = subst (λ (l : List ℤ). AreAccountsOf s.networks s.plan.guard (runs_of s) l (accounts_of new.runner)) (sym more)
+          (laws.goes_on.notes s.plan.guard (runs_of s) (samples_in s body) (samples_in s frames) (states_of old.runner) (accounts_of old.runner) (accounts_of new.runner) (some_sample s laws)
+          has.leads has.noted run.ran.notes);
     }
   where
     sum : (a b c : ℕ) → a * c + b * c ≡ (a + b) * c
@@ -130,3 +134,10 @@ ran_more s laws old new count l m k x y z so block = record {
   input = Consumes-trans l m k so.body block.frames so.input block.input;
   output = written_behind s laws block.frames block.wrote.made old new count l m x y z so block.wrote.run block.wrote.output;
 }
+
+-- the next of so many frames in all, by its own setting
+pub ran_next : (s : Setting) → HasLaws s → (old new : Round) (all : ℕ) (l m k x y z : Option (List ℕ)) → RanSoFar s old l m x y
+    → WritesBlock (round_setting old) old new (next_count old.runner.done all) m k y z → RanSoFar s new l k x z
+ran_next s laws old new all l m k x y z so block =
+    let count = next_count old.runner.done all in
+    ran_more s laws old new count l m k x y z so (subst (λ (t : Setting). WritesBlock t old new count m k y z) so.run.set block)

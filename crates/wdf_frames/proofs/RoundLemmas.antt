@@ -4,7 +4,7 @@ use Rattle.std.specs.Prelude.{ℤ, pos, unsigned_abs, slice_index_or, Option, So
 use Rattle.std.proofs.Math.Nat.{div-eq_of_lt, lt_of_mul-lt-mul_right, mul-le-mul_right, mul-div_cancel, mul-add-div_right}
 use Rattle.std.proofs.lemmas.List.{take_all, take_at}
 use Rattle.wdf_bounds.specs.Plans.{PlanOf}
-use Rattle.wdf_lattice.specs.Runners.{RunnerValue, RunsOn, states_of}
+use Rattle.wdf_lattice.specs.Runners.{RunnerValue, RunsOn, NotesOn, states_of, accounts_of}
 use Rattle.wdf_wav.specs.declared.head.Head.{Head}
 use Rattle.wdf_frames.specs.declared.over.Over.{Over}
 use Rattle.wdf_frames.specs.declared.round.Round.{Round}
@@ -109,6 +109,8 @@ runs_frames s laws old mid new count whole frames made rest items long less runn
             (subst (λ (l : List ℤ). RunsOn s.networks s.plan.guard (runs_of s) (states_of mid.runner) (states_of new.runner) l ran.waves) front ran.on);
         bytes = take_at made rest (whole * write_size s) room ∙ ran.bytes;
         limited = ran.limited ∙ ap (λ (n : ℕ). n + limited_among s ran.waves) limited;
+        notes = subst (λ (r : RunnerValue). NotesOn s.networks s.plan.guard (runs_of s) (states_of r) (accounts_of r) (accounts_of new.runner) (samples_in s (take (whole * read_size s) frames))) runner
+            (subst (λ (l : List ℤ). NotesOn s.networks s.plan.guard (runs_of s) (states_of mid.runner) (accounts_of mid.runner) (accounts_of new.runner) l) front ran.notes);
         done = ran.done ∙ ap (λ (r : RunnerValue). r.done + whole) runner;
       };
     }

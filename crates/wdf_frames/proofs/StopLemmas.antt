@@ -15,9 +15,9 @@ use Rattle.wdf_frames.specs.declared.round.Round.{Round}
 use Rattle.wdf_frames.specs.Setting.{Setting, AreSmall, AreWithin, IsFirstOver, read_size, samples_in, written_head}
 use Rattle.wdf_frames.specs.Written.{IsResult}
 use Rattle.wdf_frames.specs.Stops.{FrameStops, StopsOver, StopsShort, StopsWriting}
-use Rattle.wdf_frames.specs.Progress.{HasLaws, BlockStops, StopsAtOver, StopsAtEnd, StopsInPart, RanSoFar, data_for}
+use Rattle.wdf_frames.specs.Progress.{HasLaws, BlockStops, StopsAtOver, StopsAtEnd, StopsInPart, RanSoFar, data_for, next_count, round_setting}
 use Rattle.wdf_frames.proofs.FrameLemmas.{length_samples, no_samples, samples_more}
-use Rattle.wdf_frames.proofs.ProgressLemmas.{data_behind, has_run_more, result_is, written_behind}
+use Rattle.wdf_frames.proofs.ProgressLemmas.{data_behind, has_run_more, next_few, next_most, next_some, result_is, written_behind}
 
 -- the header was not written whole
 pub stops_at_header : (s : Setting) → HasLaws s → (l x y : Option (List ℕ)) → AppendsPart x y (head_bytes_of (written_head s)) → FrameStops s l l x y WriteFault
@@ -184,3 +184,12 @@ frames_stop s laws old new count l m k x y z ReadFault so some most few stop =
       result = result_is s laws so.body;
       output = subst (λ (w : Option (List ℕ)). Appends x w (head_bytes_of (written_head s) ++ data_for s so.body)) (sym stop.kept) so.output;
     }
+
+-- at the next of all frames, by its own setting
+pub next_stops : (s : Setting) → HasLaws s → (old new : Round) (all : ℕ) (l m k x y z : Option (List ℕ)) (e : FrameStop) → RanSoFar s old l m x y
+    → old.runner.done < all → all ≡ s.head.frames → BlockStops (round_setting old) old new (next_count old.runner.done all) m k y z e → FrameStops s l k x z e
+next_stops s laws old new all l m k x y z e so more frames stop =
+    let count = next_count old.runner.done all in
+    frames_stop s laws old new count l m k x y z e so (next_some old.runner.done all more)
+    (subst (λ (n : ℕ). old.runner.done + count ≤ n) frames (next_most old.runner.done all more)) (next_few old.runner.done all)
+    (subst (λ (t : Setting). BlockStops t old new count m k y z e) so.run.set stop)

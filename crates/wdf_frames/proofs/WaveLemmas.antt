@@ -9,10 +9,13 @@ use Rattle.wdf_frames.specs.declared.frame_stop.FrameStop.{FrameStop}
 use Rattle.wdf_frames.specs.declared.frame_stop.FrameStop.TheVariants.{WriteFault}
 use Rattle.wdf_frames.specs.declared.round.Round.{Round}
 use Rattle.wdf_frames.specs.Setting.{Setting, read_size, runs_of, samples_in, written_head}
-use Rattle.wdf_frames.specs.Written.{CountsLimited}
+use Rattle.wdf_lattice.specs.declared.networks.Networks.{Networks}
+use Rattle.wdf_lattice.specs.SideAccounts.{totals_with}
+use Rattle.wdf_lattice.specs.Runners.{accounts_of, totals_by}
+use Rattle.wdf_frames.specs.RunFacts.{HasTotals, TellsRun}
 use Rattle.wdf_frames.specs.WaveRuns.{WritesWave}
 use Rattle.wdf_frames.specs.Stops.{FrameStops}
-use Rattle.wdf_frames.specs.Progress.{HasLaws, RanSoFar, data_for, solved_waves}
+use Rattle.wdf_frames.specs.Progress.{HasLaws, HasRun, RanSoFar, data_for, solved_waves}
 use Rattle.wdf_frames.proofs.ProgressLemmas.{result_is}
 
 -- the pad
@@ -37,8 +40,17 @@ no_part (suc n) zero few inside = absurd (omega arith)
 no_part (suc n) (suc zero) few inside = absurd (omega arith)
 no_part (suc n) (suc (suc k)) few inside = absurd (omega arith)
 
+-- the totals of a round are those of the frames that it ran
+tells_totals : (s : Setting) → HasLaws s → (body : List ℕ) (r : Round) → HasRun s body r → HasTotals s body (totals_by r.runner)
+tells_totals s laws body r has =
+    let accounts = accounts_of r.runner in
+    let networks : s.networks ≡ r.runner.networks = sym (ap (λ (t : Setting). t.networks) has.set) in
+    let runs : runs_of s ≡ r.runner.runs = sym (r.shaped.runs_are ∙ (r.shaped.for_channels ∙ ap runs_of has.set)) in
+    subst (λ (ns : Networks). HasTotals s body (totals_with ns r.runner.runs accounts)) networks
+    (subst (λ (n : ℕ). HasTotals s body (totals_with s.networks n accounts)) runs (laws.tells s.plan.guard (runs_of s) (samples_in s body) accounts has.noted))
+
 pub writes_wave : (s : Setting) → HasLaws s → (r : Round) (l k x y z : Option (List ℕ)) → RanSoFar s r l k x y → r.runner.done ≡ s.head.frames → Appends y z (pad_of s)
-    → (wave : WritesWave s l k x z) × CountsLimited s wave.body r.limited
+    → (wave : WritesWave s l k x z) × TellsRun s wave.body r.limited (totals_by r.runner)
 writes_wave s laws r l k x y z so all pad =
     let unpadded = head_bytes_of (written_head s) ++ data_for s so.body in
     let gives = laws.one_wave.some s.plan.guard (runs_of s) (samples_in s so.body) in (
@@ -51,7 +63,10 @@ writes_wave s laws r l k x y z so all pad =
         wave = record { unpadded = unpadded; result = result_is s laws so.body; padded = refl };
         output = Appends-trans x y z unpadded (pad_of s) so.output pad;
       },
-      record { waves = solved_waves s so.body; gives = gives; counted = so.run.counted },
+      record {
+        counted = record { waves = solved_waves s so.body; gives = gives; counted = so.run.counted };
+        ledger = tells_totals s laws so.body r so.run;
+      },
     )
 
 -- the output failed at the pad

@@ -2,6 +2,7 @@ pub mod Ends
 pub mod Found
 pub mod FrameLaws
 pub mod Progress
+pub mod RunFacts
 pub mod RunStates
 pub mod Setting
 pub mod Shaped

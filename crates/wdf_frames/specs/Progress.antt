@@ -3,10 +3,14 @@ use Rattle.std.specs.Prelude.{◌≡◌, ℕ, ◌+◌, ◌-◌, ◌*◌, ◌<◌
 use Rattle.std.specs.Io.KnownBytes.{Consumes, Appends, IsAtEnd}
 use Rattle.wdf_io.specs.Moved.{ConsumesAtMost, AppendsPart}
 use Rattle.wdf_algebra.specs.Samples.{IsSampleWidth}
+use Rattle.wdf_law.specs.declared.side.Side.{Side}
+use Rattle.wdf_energy.specs.declared.totals.Totals.{Totals}
 use Rattle.wdf_lattice.specs.Sides.{sources_driven}
 use Rattle.wdf_lattice.specs.SolvedWaves.{waves_for}
-use Rattle.wdf_lattice.specs.Runners.{AreAtRest, RunsOn, states_of}
-use Rattle.wdf_lattice.specs.RunnerLaws.{LeadsTo, GoesOnFromRest}
+use Rattle.wdf_lattice.specs.SideAccounts.{accounts_for, totals_with}
+use Rattle.wdf_lattice.specs.Runners.{AreAtRest, AreOpened, RunsOn, NotesOn, states_of, accounts_of}
+use Rattle.wdf_lattice.specs.RunnerLaws.{LeadsTo, AreAccountsOf, GoesOnFromRest}
+use Rattle.wdf_lattice.specs.TotalLaws.{TellsTotals}
 use Rattle.wdf_lattice.specs.WaveLaws.{HasOneWave}
 use Rattle.wdf_wav.specs.Header.{head_bytes_of}
 use Rattle.wdf_wav.specs.Laws.{SamplesAppend, DataAppends, CountsSamples}
@@ -28,6 +32,9 @@ data_for s body = coded s (solved_waves s body)
 abbrev pub limited_in : Setting → List ℕ → ℕ
 limited_in s body = limited_among s (solved_waves s body)
 
+abbrev pub totals_for : Setting → List ℕ → Side → ℕ → Option Totals
+totals_for s body = totals_with s.networks (runs_of s) (accounts_for s.networks s.plan.guard (runs_of s) (samples_in s body))
+
 -- ---- a round
 
 abbrev pub round_setting : Round → Setting
@@ -39,6 +46,7 @@ pub record IsBegunRound (r : Round) (s : Setting) : Type 0 where
   pub none_done : r.runner.done ≡ 0
   pub none_limited : r.limited ≡ 0
   pub rest : AreAtRest s.networks (runs_of s) (states_of r.runner)
+  pub none_noted : AreOpened s.networks (runs_of s) (accounts_of r.runner)
 
 -- it has run the frames of body from rest, all of them within amp
 pub record HasRun (s : Setting) (body : List ℕ) (r : Round) : Type 0 where
@@ -47,6 +55,7 @@ pub record HasRun (s : Setting) (body : List ℕ) (r : Round) : Type 0 where
   pub within : AreWithin s body
   pub leads : LeadsTo s.networks s.plan.guard (runs_of s) (samples_in s body) (states_of r.runner)
   pub counted : r.limited ≡ limited_in s body
+  pub noted : AreAccountsOf s.networks s.plan.guard (runs_of s) (samples_in s body) (accounts_of r.runner)
 
 -- it goes on over the samples of so many frames, whose output samples have these bytes
 pub record RunsSamples (s : Setting) (old new : Round) (samples : List ℤ) (made : List ℕ) (count : ℕ) : Type 0 where
@@ -55,6 +64,7 @@ pub record RunsSamples (s : Setting) (old new : Round) (samples : List ℤ) (mad
   pub on : RunsOn s.networks s.plan.guard (runs_of s) (states_of old.runner) (states_of new.runner) samples waves
   pub bytes : made ≡ coded s waves
   pub limited : new.limited ≡ old.limited + limited_among s waves
+  pub notes : NotesOn s.networks s.plan.guard (runs_of s) (states_of old.runner) (accounts_of old.runner) (accounts_of new.runner) samples
   pub done : new.runner.done ≡ old.runner.done + count
 
 -- and over the bytes of as many frames
@@ -119,6 +129,7 @@ pub record HasLaws (s : Setting) : Type 0 where
   pub codes : DataAppends s.head.bits
   pub goes_on : GoesOnFromRest s.networks
   pub one_wave : HasOneWave s.networks
+  pub tells : TellsTotals s.networks
 
 -- ---- a block of so many frames is read, run and written
 

@@ -1,5 +1,8 @@
 -- A run of a wave as its callers see it.
-use Rattle.std.specs.Prelude.{◌≡◌, ℕ}
+use Rattle.std.specs.Prelude.{◌≡◌, ℕ, Option}
+use Rattle.wdf_law.specs.declared.side.Side.{Side}
+use Rattle.wdf_energy.specs.declared.totals.Totals.{Totals}
+use Rattle.wdf_lattice.specs.Runners.{totals_by as runner_totals}
 use Rattle.wdf_frames.specs.declared.wave_run.WaveRun.{WaveRun}
 use Rattle.wdf_frames.specs.Setting.{Setting}
 use Rattle.wdf_frames.specs.Progress.{IsBegunRound, round_setting}
@@ -10,6 +13,10 @@ setting_of run = round_setting run.round
 -- how many output samples were limited so far
 abbrev pub limited_by : WaveRun → ℕ
 limited_by run = run.round.limited
+
+-- where the energy of the frames so far went, by the side of a network and the number of a run
+abbrev pub totals_by : WaveRun → Side → ℕ → Option Totals
+totals_by run = runner_totals run.round.runner
 
 -- it is at rest, and has read and written nothing
 abbrev pub IsFresh : WaveRun → Type 0

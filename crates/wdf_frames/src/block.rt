@@ -2,7 +2,7 @@
 ghost use Rattle.std.specs.Prelude.{◌≡◌, ◌+◌, ◌*◌, ◌/◌, ◌<◌, ◌≤◌, length, take, pos, slice_index_or, unsigned_abs, All, vec_len};
 ghost use Rattle.wdf_algebra.specs.Samples.{IsSampleWidth};
 ghost use Rattle.wdf_lattice.specs.Sides.{sources_driven, run_count, down_shift_of};
-ghost use Rattle.wdf_lattice.specs.Runners.{RunsOn, states_of};
+ghost use Rattle.wdf_lattice.specs.Runners.{RunsOn, NotesOn, accounts_of, states_of};
 ghost use Rattle.wdf_wav.specs.PcmStream.{samples_of};
 ghost use Rattle.wdf_frames.specs.Found.{IsFound};
 
@@ -75,6 +75,7 @@ fn run_front(runner: &mut Runner, count: usize, runs: usize, samples: &[i64], wa
     requires left { runner.old.done + count ≤ runner.old.plan.frames }
     requires amplitude { All (λ z. unsigned_abs z ≤ runner.old.plan.amp) samples.now }
     ensures on { RunsOn runner.old.networks runner.old.plan.guard runs (states_of runner.old) (states_of runner.new) samples.now (take (count * runs) waves.new) }
+    ensures accounts { NotesOn runner.old.networks runner.old.plan.guard runs (states_of runner.old) (accounts_of runner.old) (accounts_of runner.new) samples.now }
     ensures done { runner.new.done ≡ runner.old.done + count }
     ensures networks { runner.new.networks ≡ runner.old.networks }
     ensures plan { runner.new.plan ≡ runner.old.plan }
@@ -98,6 +99,7 @@ pub(crate) fn run_samples(
     requires amplitude { All (λ z. unsigned_abs z ≤ runner.old.plan.amp) samples.now }
     ensures kept { vec_len waves.new ≡ vec_len waves.old }
     ensures on { RunsOn runner.old.networks runner.old.plan.guard runs (states_of runner.old) (states_of runner.new) samples.now (take (count * runs) waves.new.items) }
+    ensures accounts { NotesOn runner.old.networks runner.old.plan.guard runs (states_of runner.old) (accounts_of runner.old) (accounts_of runner.new) samples.now }
     ensures done { runner.new.done ≡ runner.old.done + count }
     ensures networks { runner.new.networks ≡ runner.old.networks }
     ensures plan { runner.new.plan ≡ runner.old.plan }

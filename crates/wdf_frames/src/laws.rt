@@ -12,7 +12,8 @@ use wdf_lattice::laws::one_wave;
 use wdf_wav::laws::data_append;
 
 /// Bytes of frames give the output samples that were worked by hand: of one channel and of two, of two
-/// sources in one run, of which one is limited, and of a lattice.
+/// sources in one run, of which one is limited, and of a lattice. So they do the totals of runs: of two
+/// channels and of a branch.
 pub fn worked_runs()
     ensures { AreWorkedRuns }
 {}

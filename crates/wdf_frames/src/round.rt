@@ -7,8 +7,10 @@ use crate::over::Over;
 use crate::samples::encode;
 use std::alloc::{AllocError, Global};
 use wdf_bounds::Plan;
-use wdf_lattice::laws::{goes_on_from_rest, one_wave};
+use wdf_energy::Totals;
+use wdf_lattice::laws::{goes_on_from_rest, one_wave, totals_told};
 use wdf_lattice::{Networks, Runner};
+use wdf_law::Side;
 use wdf_wav::Head;
 use wdf_wav::laws::data_append;
 
@@ -34,9 +36,9 @@ pub(crate) struct Round {
 impl Round {
     ghost use Rattle.std.specs.Prelude.{◌≡◌, ◌+◌, ◌*◌, ◌<◌, ◌≤◌, length, take, pos, slice_index_or, unsigned_abs, IfOk};
     ghost use Rattle.wdf_lattice.specs.Sides.{sources_driven, run_count};
-    ghost use Rattle.wdf_lattice.specs.Runners.{FitsEach, DriveAll};
+    ghost use Rattle.wdf_lattice.specs.Runners.{FitsEach, DriveAll, totals_by};
     ghost use Rattle.wdf_wav.specs.Header.{IsFrameFormat, pad_size};
-    ghost use Rattle.wdf_frames.specs.Setting.{AreSmall, samples_in, setting, read_size, write_size, written_head};
+    ghost use Rattle.wdf_frames.specs.Setting.{AreSmall, samples_in, setting, runs_of, read_size, write_size, written_head};
     ghost use Rattle.wdf_frames.specs.Progress.{IsBegunRound, RunsFrames, RunsSamples, FindsOver, HasLaws, frames_before, round_setting};
 
     /// A round at rest, with buffers of a block.
@@ -113,7 +115,8 @@ impl Round {
         let samples = &self.samples[..count * usize::from(self.head.channels)];
         run_samples(&mut self.runner, count, self.runs, samples, &mut self.waves);
         let waves = &self.waves[..count * self.runs];
-        self.limited += encode(self.down, bits, waves, made);
+        let limited = encode(self.down, bits, waves, made);
+        self.limited += limited;
     }
 
     /// Runs the whole frames in front of the first sample over amp, of `count` frames, and writes the
@@ -192,6 +195,29 @@ impl Round {
         self.head.frames as usize * self.write_size() % 2
     }
 
+    /// The networks that run.
+    pub(crate) fn networks(&self) -> &Networks
+        ensures { result.now ≡ (round_setting self.now).networks }
+    {
+        self.runner.networks()
+    }
+
+    /// How many runs there are.
+    pub(crate) fn runs(&self) -> usize
+        ensures value { result ≡ runs_of (round_setting self.now) }
+        ensures some { 1 ≤ result }
+        ensures few { result ≤ 8 }
+    {
+        self.runs
+    }
+
+    /// Where the energy of a run went so far, if there are such a side and run.
+    pub(crate) fn totals(&self, side: Side, run: usize) -> Option<Totals>
+        ensures { result ≡ totals_by self.now.runner side run }
+    {
+        self.runner.totals(side, run)
+    }
+
     /// The output samples that were limited so far.
     pub(crate) fn limited(&self) -> u64
         ensures { result ≡ self.now.limited }
@@ -207,5 +233,6 @@ impl Round {
         data_append(self.head.bits);
         goes_on_from_rest(self.runner.networks());
         one_wave(self.runner.networks());
+        totals_told(self.runner.networks());
     }
 }

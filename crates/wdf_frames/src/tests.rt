@@ -8,9 +8,10 @@ use std::alloc::{AllocError, Global};
 use std::process::Abort;
 use std::test::Fail;
 use wdf_bounds::{Plan, plan_check};
+use wdf_energy::Totals;
 use wdf_io::{MemSink, MemSource, take_exact};
 use wdf_lattice::Networks;
-use wdf_law::{Kind, Net, Outlet, Tree};
+use wdf_law::{Kind, Net, Outlet, Side, Tree};
 use wdf_quant::enclose;
 use wdf_wav::{Head, head_bytes};
 
@@ -179,7 +180,7 @@ fn calls(alloc: Global, call: Option<u64>) -> Result<Vec<u64>, AllocError> {
 
 // A wave of so many channels and frames runs through a circuit. So many zeros and then `read` are
 // read, in pieces, and the same zeros and then `written` are written behind the header of `runs`
-// channels. At most 8 of the bytes that are left in the input are counted.
+// channels. At most 8 of the bytes that are left in the input are counted. `ledger` has totals of runs.
 #[derive(Clone, Copy)]
 struct Case {
     circuit: Circuit,
@@ -197,6 +198,7 @@ struct Case {
     limited: u64,
     runs: u16,
     written: &'static [u8],
+    ledger: &'static [(Side, usize, Option<Totals>)],
 }
 
 const DONE: Case = Case {
@@ -215,21 +217,57 @@ const DONE: Case = Case {
     limited: 0,
     runs: 1,
     written: &[],
+    ledger: &[],
 };
 
-fn expect(rt: &impl Abort, alloc: Global, case: &Case) -> Result<(), Fail> {
-    let head_in = head(case.channels, case.is_byte, case.frames)?;
-    let head_out = head(case.runs, case.is_byte, case.frames)?;
-    let mut run = run_of(alloc, case.circuit, case.guard, case.amp, &head_in)?;
-    let piece = case.piece.max(1);
+// The run of a case at rest, what it reads, and what it is to write.
+fn run_for(alloc: Global, case: &Case) -> Result<WaveRun, Fail>
+    ensures { IfOk result IsFresh }
+{
+    let head = head(case.channels, case.is_byte, case.frames)?;
+    run_of(alloc, case.circuit, case.guard, case.amp, &head)
+}
+
+fn input_for(alloc: Global, case: &Case) -> Result<MemSource, Fail> {
     let data = bytes(alloc, &[], case.zeros, case.read)?;
-    let mut input = MemSource::new(data, calls(alloc, case.read_fails)?, piece);
-    let mut out = MemSink::new(alloc, Vec::new(alloc), piece, 40000)?;
-    assert_eq!(rt; run.write(&mut input, &mut out), case.answer);
+    let fails = calls(alloc, case.read_fails)?;
+    Ok(MemSource::new(data, fails, case.piece.max(1)))
+}
+
+fn written_for(alloc: Global, case: &Case) -> Result<Vec<u8>, Fail> {
+    let head = head(case.runs, case.is_byte, case.frames)?;
+    let written = bytes(alloc, &head_bytes(&head), case.zeros, case.written)?;
+    Ok(written)
+}
+
+// The run's answer alone.
+fn answer(run: &mut WaveRun, input: &mut MemSource, out: &mut MemSink) -> Result<(), FrameStop>
+    requires { IsFresh run.old }
+{
+    run.write(input, out)
+}
+
+// What the run tells besides its answer.
+fn expect_told(rt: &impl Abort, run: &WaveRun, case: &Case) {
     assert_eq!(rt; run.limited(), case.limited);
-    assert_eq!(rt; take_exact(&mut input, &mut [0; 8]), Ok(case.left));
-    let want = bytes(alloc, &head_bytes(&head_out), case.zeros, case.written)?;
-    assert!(rt; out.bytes() == want.as_slice());
+    for (side, number, totals) in case.ledger {
+        assert_eq!(rt; run.totals(*side, *number), *totals);
+    }
+}
+
+fn expect_left(rt: &impl Abort, input: &mut MemSource, left: usize) {
+    assert_eq!(rt; take_exact(input, &mut [0; 8]), Ok(left));
+}
+
+fn expect(rt: &impl Abort, alloc: Global, case: &Case) -> Result<(), Fail> {
+    let mut run = run_for(alloc, case)?;
+    let mut input = input_for(alloc, case)?;
+    let mut out = MemSink::new(alloc, Vec::new(alloc), case.piece.max(1), 40000)?;
+    let written = written_for(alloc, case)?;
+    assert_eq!(rt; answer(&mut run, &mut input, &mut out), case.answer);
+    expect_told(rt, &run, case);
+    expect_left(rt, &mut input, case.left);
+    assert!(rt; out.bytes() == written.as_slice());
     Ok(())
 }
 
@@ -239,6 +277,47 @@ fn expect_all(rt: &impl Abort, alloc: Global, cases: &[Case]) -> Result<(), Fail
     }
     Ok(())
 }
+
+// Where the energy of the runs below went, worked by hand. Of a pulse the squares sum to 88731881 at
+// the source and to 178188521 at the load, and the capacitor's last is 1473796.
+const PULSE: Totals = Totals {
+    incident: 268435456,
+    absorbed: 266936716,
+    stored: 1473930,
+};
+
+const SILENCE: Totals = Totals {
+    incident: 0,
+    absorbed: 0,
+    stored: 0,
+};
+
+// At the sources they sum to 128268245 and 119268245, at the load to 1944641344.
+const TWO_SOURCES: Totals = Totals {
+    incident: 2192352596,
+    absorbed: 1096133219,
+    stored: 0,
+};
+
+// At each source to 275066738180, at the resistors to 4097 and to 1100401286148.
+const MICROOHM: Totals = Totals {
+    incident: 275133906944,
+    absorbed: 275133859330,
+    stored: 0,
+};
+
+const MEGOHM: Totals = Totals {
+    incident: 275133906944,
+    absorbed: 275133905444,
+    stored: 0,
+};
+
+// All at the load: 5, -1 and -128, by 16.
+const MATCHED: Totals = Totals {
+    incident: 4200960,
+    absorbed: 4200960,
+    stored: 0,
+};
 
 // Worked by hand.
 static WORKED: [Case; 5] = [
@@ -252,6 +331,11 @@ static WORKED: [Case; 5] = [
         zeros: 8190,
         read: &[0, 0x40, 0, 0, 0, 0],
         written: &[0xaa, 0x2a, 0x71, 0x1c, 0x86, 0xf6],
+        ledger: &[
+            (Side::Whole, 0, Some(PULSE)),
+            (Side::Whole, 1, None),
+            (Side::A, 0, None),
+        ],
         ..DONE
     },
     // The same response in three of five channels, each of which has a state of its own.
@@ -265,10 +349,17 @@ static WORKED: [Case; 5] = [
         read: b"\0\x40\0\xc0\0\0\0\0\0\x40\0\0\0\0\0\0\0\0\0\0\0\0\0\0\0\0\0\0\0\0",
         runs: 5,
         written: b"\xaa\x2a\x56\xd5\0\0\0\0\xaa\x2a\x71\x1c\x8f\xe3\0\0\0\0\x71\x1c\x86\xf6\x7a\x09\0\0\0\0\x86\xf6",
+        ledger: &[
+            (Side::Whole, 0, Some(PULSE)),
+            (Side::Whole, 1, Some(PULSE)),
+            (Side::Whole, 2, Some(SILENCE)),
+            (Side::Whole, 4, Some(PULSE)),
+            (Side::Whole, 5, None),
+        ],
         ..DONE
     },
     // Two channels drive the two sources of one run: 3000 and 6000 give 6000, 3 and -3 give 0, and
-    // 32767 twice comes to 43687, which is limited.
+    // 32767 twice comes to 43688, which is limited.
     Case {
         circuit: Circuit::Tee(Kind::Src),
         guard: 0,
@@ -278,6 +369,7 @@ static WORKED: [Case; 5] = [
         read: b"\xb8\x0b\x70\x17\x03\0\xfd\xff\xff\x7f\xff\x7f",
         limited: 1,
         written: &[0x70, 0x17, 0, 0, 0xff, 0x7f],
+        ledger: &[(Side::Whole, 0, Some(TWO_SOURCES)), (Side::Whole, 1, None)],
         ..DONE
     },
     // 1000 gives 999, and -32768 gives -32764.
@@ -287,6 +379,12 @@ static WORKED: [Case; 5] = [
         frames: 2,
         read: &[0xe8, 3, 0, 0x80],
         written: &[0xe7, 3, 4, 0x80],
+        ledger: &[
+            (Side::A, 0, Some(MICROOHM)),
+            (Side::B, 0, Some(MEGOHM)),
+            (Side::B, 1, None),
+            (Side::Whole, 0, None),
+        ],
         ..DONE
     },
     // Data of three bytes has a pad byte behind it; that of the input is not read.
@@ -297,6 +395,7 @@ static WORKED: [Case; 5] = [
         read: &[133, 127, 0, 99],
         left: 1,
         written: &[133, 127, 0, 0],
+        ledger: &[(Side::Whole, 0, Some(MATCHED))],
         ..DONE
     },
 ];
@@ -454,19 +553,39 @@ static OUTPUTS: [(u64, usize, usize); 6] = [
     (3, 40000, 44 + 4101),
 ];
 
+// Silence at the lowest value, in data of odd size.
+const LOWEST: Case = Case {
+    amp: 128,
+    is_byte: true,
+    frames: 4101,
+    zeros: 4101,
+    ..DONE
+};
+
+fn expect_front(
+    rt: &impl Abort,
+    alloc: Global,
+    call: u64,
+    room: usize,
+    held: usize,
+) -> Result<(), Fail> {
+    let mut run = run_for(alloc, &LOWEST)?;
+    let mut input = input_for(alloc, &LOWEST)?;
+    let mut out = MemSink::new(alloc, vec![in alloc; call]?, 10000, room)?;
+    let written = written_for(alloc, &LOWEST)?;
+    assert_eq!(rt;
+        answer(&mut run, &mut input, &mut out),
+        Err(FrameStop::WriteFault)
+    );
+    assert_eq!(rt; out.bytes().len(), held);
+    assert!(rt; written.starts_with(out.bytes()));
+    Ok(())
+}
+
 #[test]
 fn an_output_may_fail(rt: HostRuntime) -> Result<(), Fail> {
-    let alloc = rt.alloc();
-    let head = head(1, true, 4101)?;
-    let data = bytes(alloc, &[128; 4101], 0, &[])?;
-    let want = bytes(alloc, &head_bytes(&head), 0, &data)?;
     for (call, room, held) in &OUTPUTS {
-        let mut run = run_of(alloc, Circuit::Divider, 4, 128, &head)?;
-        let mut input = MemSource::new(data.clone()?, Vec::new(alloc), 10000);
-        let mut out = MemSink::new(alloc, vec![in alloc; *call]?, 10000, *room)?;
-        assert_eq!(rt; run.write(&mut input, &mut out), Err(FrameStop::WriteFault));
-        assert_eq!(rt; out.bytes().len(), *held);
-        assert!(rt; want.starts_with(out.bytes()));
+        expect_front(&rt, rt.alloc(), *call, *room, *held)?;
     }
     Ok(())
 }

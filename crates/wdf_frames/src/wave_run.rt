@@ -6,8 +6,10 @@ use crate::frames::{put, write_frames};
 use crate::round::{BLOCK, Round};
 use std::alloc::{AllocError, Global};
 use wdf_bounds::Plan;
+use wdf_energy::Totals;
 use wdf_io::{Sink, Source};
 use wdf_lattice::Networks;
+use wdf_law::Side;
 use wdf_wav::Head;
 
 /// The run of one wave by a netlist's networks. It holds all the memory that the run takes.
@@ -26,11 +28,11 @@ impl WaveRun {
     ghost use Rattle.wdf_lattice.specs.Sides.{sources_driven, run_count};
     ghost use Rattle.wdf_lattice.specs.Runners.{FitsEach, DriveAll};
     ghost use Rattle.wdf_wav.specs.Header.{IsPcmHead};
-    ghost use Rattle.wdf_frames.specs.Setting.{setting};
-    ghost use Rattle.wdf_frames.specs.Written.{CountsLimited};
+    ghost use Rattle.wdf_frames.specs.Setting.{setting, runs_of};
+    ghost use Rattle.wdf_frames.specs.RunFacts.{TellsRun};
     ghost use Rattle.wdf_frames.specs.WaveRuns.{WritesWave};
     ghost use Rattle.wdf_frames.specs.Stops.{FrameStops};
-    ghost use Rattle.wdf_frames.specs.RunStates.{IsReady, IsFresh, limited_by, setting_of};
+    ghost use Rattle.wdf_frames.specs.RunStates.{IsReady, IsFresh, limited_by, setting_of, totals_by};
 
     /// A run, at rest, of a wave whose head was read.
     ///
@@ -66,7 +68,8 @@ impl WaveRun {
 
     /// Reads all frames of the wave, whose head was read, and writes the wave of their load waves:
     /// a header of 44 bytes, the output samples, and a pad byte after data of odd size. It reads and
-    /// writes in blocks of at most 4,096 frames. No byte behind the last frame is read.
+    /// writes in blocks of at most 4,096 frames. No byte behind the last frame is read. Once it is done,
+    /// [`WaveRun::limited`] and [`WaveRun::totals`] tell of just these frames.
     ///
     /// A sample's magnitude is at most the plan's `amp`.
     ///
@@ -78,9 +81,9 @@ impl WaveRun {
     /// which states all frames, and just the output samples of the frames before.
     pub fn write<I: Source, O: Sink>(&mut self, input: &mut I, out: &mut O) -> Result<(), FrameStop>
         requires { IsFresh self.old }
-        ensures ok { OnOk result (WritesWave (setting_of self.old) (I.left input.old) (I.left input.new) (O.written out.old) (O.written out.new)) }
-        ensures limited { OnOk result ((wave : WritesWave (setting_of self.old) (I.left input.old) (I.left input.new) (O.written out.old) (O.written out.new)) × CountsLimited (setting_of self.old) wave.body (limited_by self.new)) }
+        ensures told { OnOk result ((wave : WritesWave (setting_of self.old) (I.left input.old) (I.left input.new) (O.written out.old) (O.written out.new)) × TellsRun (setting_of self.old) wave.body (limited_by self.new) (totals_by self.new)) }
         ensures stopped { IfErr result (FrameStops (setting_of self.old) (I.left input.old) (I.left input.new) (O.written out.old) (O.written out.new)) }
+        ensures same { setting_of self.new ≡ setting_of self.old }
         ensures read_later { I.faults input.old ≤ I.faults input.new }
         ensures write_later { O.faults out.old ≤ O.faults out.new }
         ensures read_fault { IsErrOf result FrameStop.ReadFault → Rose (I.faults input.old) (I.faults input.new) }
@@ -95,6 +98,30 @@ impl WaveRun {
             out,
         )?;
         put(out, &[0][..self.round.pad()])
+    }
+
+    /// The networks that run.
+    pub fn networks(&self) -> &Networks
+        ensures { result.now ≡ (setting_of self.now).networks }
+    {
+        self.round.networks()
+    }
+
+    /// How many runs there are, 1 to 8: one for each channel of the output.
+    pub fn runs(&self) -> usize
+        ensures value { result ≡ runs_of (setting_of self.now) }
+        ensures some { 1 ≤ result }
+        ensures few { result ≤ 8 }
+    {
+        self.round.runs()
+    }
+
+    /// Where the energy of a run went, in the frames so far: in all of them once [`WaveRun::write`] is
+    /// done. None exactly where the networks have no such side, or there is no such run.
+    pub fn totals(&self, side: Side, run: usize) -> Option<Totals>
+        ensures { result ≡ totals_by self.now side run }
+    {
+        self.round.totals(side, run)
     }
 
     /// How many output samples were limited so far.

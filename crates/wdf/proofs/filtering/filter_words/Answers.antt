@@ -95,7 +95,7 @@ returns-clause-done g c =
     let head = c.in_ok-head.head in
     let plan : c.plan-plan.result ≡ plan_in o head = c.plan-plan.ensures in
     let set : setting_of c.in_ok-wave_run.wave_run ≡ setting_for o d head = c.in_ok-wave_run.ensures.set ∙ ap (λ (p : PlanOf). setting d.networks p head) plan in
-    let writes = subst (λ (s : Setting). WritesWave s between behind old now) set c.in_ok-write.ensures.ok in
+    let writes = subst (λ (s : Setting). WritesWave s between behind old now) set c.in_ok-write.ensures.told.0 in
     let keeps = subst (λ (p : PlanOf). KeepsRuns (setting d.networks p head)) plan c.run_laws.ensures in
     record {
       between = between;

@@ -4,4 +4,15 @@ use Rattle.wdf_frames.proofs.laws.worked_runs.Goals as goal
 
 pub returns : goal.returns
 unfolding sample_value sample_coding
-returns c = record { divider = refl; channels = refl; sources = refl; limited = refl; one_run = refl; lattice = refl }
+returns c = record {
+  divider = refl;
+  channels = refl;
+  sources = refl;
+  limited = refl;
+  one_run = refl;
+  lattice = refl;
+  first_energy = refl;
+  second_energy = refl;
+  no_third = refl;
+  branch_energy = refl;
+}

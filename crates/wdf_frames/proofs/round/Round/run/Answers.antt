@@ -23,8 +23,8 @@ run_whole-requires-clause-small c =
     (whole_small (λ z. unsigned_abs z ≤ old.runner.plan.amp) mid.samples.items (samples_in (round_setting old) c.args.frames.now) (c.args.count * old.head.channels) c.load-small.result
     (whole * mid.head.channels) c.load-small.ensures.read inside c.load-small.ensures.most c.load-small.ensures.small)
 
-pub returns-clause-found : goal.returns-clause-found
-returns-clause-found c =
+pub returns : goal.returns
+returns c =
     let old = c.args.self.now in
     let mid = c.load-small.new.self in
     let new = c.run_whole.new.self in
@@ -34,50 +34,8 @@ returns-clause-found c =
     let small = c.load-small.result in
     let r = c.found.result in
     let items : c.deref.result.now ≡ mid.samples.items = search rules in
-    let channels : new.head.channels ≡ old.head.channels
-    = ap (λ (t : Setting). t.head.channels) c.run_whole.ensures.ran.set ∙ ap (λ (h : Head). h.channels) c.load-small.ensures.head in
-    let samples : take (count * c.from-channels.result) c.deref.result.now ≡ samples_in s frames
-    = (λ i. take (count * c.from-channels.ensures i) (items i)) ∙ c.load-small.ensures.read in
-    let found : IsFound old.head.channels small (samples_in s frames) r
-    = subst (λ (n : ℕ). IsFound n small (samples_in s frames) r) channels (subst (λ (l : List ℤ). IsFound new.head.channels small l r) samples c.found.ensures) in
-    finds_over s c.rules.ensures small count frames r c.requires.frames c.load-small.ensures.most c.load-small.ensures.small c.load-small.ensures.over found
-
-pub returns-clause-inside : goal.returns-clause-inside
-returns-clause-inside c =
-    let old = c.args.self.now in
-    let mid = c.load-small.new.self in
-    let new = c.run_whole.new.self in
-    let s = round_setting old in
-    let count = c.args.count in
-    let frames = c.args.frames.now in
-    let small = c.load-small.result in
-    let r = c.found.result in
-    let items : c.deref.result.now ≡ mid.samples.items = search rules in
-    let channels : new.head.channels ≡ old.head.channels
-    = ap (λ (t : Setting). t.head.channels) c.run_whole.ensures.ran.set ∙ ap (λ (h : Head). h.channels) c.load-small.ensures.head in
-    let samples : take (count * c.from-channels.result) c.deref.result.now ≡ samples_in s frames
-    = (λ i. take (count * c.from-channels.ensures i) (items i)) ∙ c.load-small.ensures.read in
-    let found : IsFound old.head.channels small (samples_in s frames) r
-    = subst (λ (n : ℕ). IsFound n small (samples_in s frames) r) channels (subst (λ (l : List ℤ). IsFound new.head.channels small l r) samples c.found.ensures) in
-    let whole = c.whole_frames-whole.result in
-    let same : frames_before count r ≡ whole
-    = before_is old.head.channels small count (samples_in s frames) r c.rules.ensures.samples.some_channel (length_samples s c.rules.ensures.samples count frames c.requires.frames) c.load-small.ensures.most found
-    ∙ sym (c.whole_frames-whole.ensures.value ∙ ap (λ (n : ℕ). small / n) c.from-channels.ensures) in
-    subst (λ (n : ℕ). n ≤ count) (sym same) c.whole_frames-whole.ensures.most
-
-pub returns-clause-run : goal.returns-clause-run
-returns-clause-run c =
-    let old = c.args.self.now in
-    let mid = c.load-small.new.self in
-    let new = c.run_whole.new.self in
-    let s = round_setting old in
-    let count = c.args.count in
-    let frames = c.args.frames.now in
-    let small = c.load-small.result in
-    let r = c.found.result in
-    let items : c.deref.result.now ≡ mid.samples.items = search rules in
-    let channels : new.head.channels ≡ old.head.channels
-    = ap (λ (t : Setting). t.head.channels) c.run_whole.ensures.ran.set ∙ ap (λ (h : Head). h.channels) c.load-small.ensures.head in
+    let set : round_setting mid ≡ s = λ i. setting (c.load-small.ensures.runner i).networks (c.load-small.ensures.runner i).plan (c.load-small.ensures.head i) in
+    let channels : new.head.channels ≡ old.head.channels = ap (λ (t : Setting). t.head.channels) (c.run_whole.ensures.ran.set ∙ set) in
     let samples : take (count * c.from-channels.result) c.deref.result.now ≡ samples_in s frames
     = (λ i. take (count * c.from-channels.ensures i) (items i)) ∙ c.load-small.ensures.read in
     let found : IsFound old.head.channels small (samples_in s frames) r
@@ -88,7 +46,6 @@ returns-clause-run c =
     ∙ sym (c.whole_frames-whole.ensures.value ∙ ap (λ (n : ℕ). small / n) c.from-channels.ensures) in
     let made = c.run_whole.new.made in
     let rest = drop (whole * c.write_size.result) c.args.made.now in
-    let set : round_setting mid ≡ s = λ i. setting (c.load-small.ensures.runner i).networks (c.load-small.ensures.runner i).plan (c.load-small.ensures.head i) in
     let ran : RunsSamples s mid new (take (whole * s.head.channels) mid.samples.items) made whole
     = subst (λ (t : Setting). RunsSamples t mid new (take (whole * t.head.channels) mid.samples.items) made whole) set c.run_whole.ensures.ran in
     let size : c.write_size.result ≡ write_size s = c.write_size.ensures.value ∙ ap write_size set in
@@ -96,6 +53,11 @@ returns-clause-run c =
     let within : whole * c.write_size.result ≤ length c.args.made.now = subst (λ (n : ℕ). whole * c.write_size.result ≤ n) (ap (λ (n : ℕ). count * n) size ∙ sym c.requires.made) most in
     let room : length made ≡ whole * write_size s
     = c.run_whole.auto.made ∙ (length-take-le (whole * c.write_size.result) c.args.made.now within ∙ ap (λ (n : ℕ). whole * n) size) in
-    subst (λ (n : ℕ). RunsFrames s old new (take (n * read_size s) frames) (take (n * write_size s) (made ++ rest)) n) (sym same)
-    (runs_frames s c.rules.ensures old mid new count whole frames made rest mid.samples.items c.requires.frames c.whole_frames-whole.ensures.most
-    c.load-small.ensures.runner c.load-small.ensures.head c.load-small.ensures.limited c.load-small.ensures.read room ran)
+    record {
+      found = finds_over s c.rules.ensures small count frames r c.requires.frames c.load-small.ensures.most c.load-small.ensures.small c.load-small.ensures.over found;
+      set = c.run_whole.ensures.ran.set ∙ set;
+      inside = subst (λ (n : ℕ). n ≤ count) (sym same) c.whole_frames-whole.ensures.most;
+      run = subst (λ (n : ℕ). RunsFrames s old new (take (n * read_size s) frames) (take (n * write_size s) (made ++ rest)) n) (sym same)
+          (runs_frames s c.rules.ensures old mid new count whole frames made rest mid.samples.items c.requires.frames c.whole_frames-whole.ensures.most
+          c.load-small.ensures.runner c.load-small.ensures.head c.load-small.ensures.limited c.load-small.ensures.read room ran);
+    }
