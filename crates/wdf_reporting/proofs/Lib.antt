@@ -1,0 +1,7 @@
+mod FindingLemmas
+mod LeafLemmas
+mod LineLemmas
+mod OneReport
+mod RatioLemmas
+mod Roots
+mod WorkedLemmas
