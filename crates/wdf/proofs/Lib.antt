@@ -7,6 +7,7 @@ mod CheckTrace
 mod DoneLemmas
 mod EndLemmas
 mod HeadLemmas
+mod ReportTrace
 mod RunTrace
 mod StatusLemmas
 mod RefusalLemmas

@@ -17,14 +17,16 @@ use Rattle.wdf.specs.World.{World, world}
 use Rattle.wdf.specs.Statuses.{status_of_usage}
 use Rattle.wdf.specs.CertifyAnswer.{RefusesCertify}
 use Rattle.wdf.specs.CheckAnswer.{RefusesCheck}
+use Rattle.wdf.specs.ReportAnswer.{RefusesReport}
 use Rattle.wdf.specs.RunAnswer.{RefusesRun}
 use Rattle.wdf.specs.Answer.{DoesOrder, DoesWords, RefusesOrder, RefusesWords}
 use Rattle.wdf.specs.AnswerLaws.{HasOneAnswer, rests_on_told}
-use Rattle.wdf.specs.Complete.{CanRun, CanCertify, CanCheck, CanDo, CanDoWords}
+use Rattle.wdf.specs.Complete.{CanRun, CanReport, CanCertify, CanCheck, CanDo, CanDoWords}
 use Rattle.wdf.proofs.Chains.{HasOne, one_value}
 use Rattle.wdf.proofs.StatusLemmas.{is_done, no_memory}
 use Rattle.wdf.proofs.CertifyTrace.{CertifyTrace, one_certify, certified, certify_done, certify_trace}
 use Rattle.wdf.proofs.CheckTrace.{CheckTrace, one_check, accepted, check_done, check_trace}
+use Rattle.wdf.proofs.ReportTrace.{ReportTrace, one_report, reported, report_done, report_trace}
 use Rattle.wdf.proofs.RunTrace.{RunTrace, one_run, filtered, run_done, run_trace}
 
 -- ---- the chain of stages that words ask for
@@ -33,7 +35,7 @@ abbrev OrderTrace : Command → Files → List (List ℕ) → (bytes : List ℕ)
 OrderTrace Run fs words bytes o s = RunTrace fs words bytes o s
 OrderTrace Certify fs words bytes o s = CertifyTrace fs words o s
 OrderTrace Check fs words bytes o s = CheckTrace fs words o s
-OrderTrace Report fs words bytes o s = s ≡ Unbuilt 1
+OrderTrace Report fs words bytes o s = ReportTrace fs words o s
 OrderTrace Soak fs words bytes o s = s ≡ Unbuilt 1
 
 abbrev WordsTrace : Result Order UsageFault → Files → List (List ℕ) → (bytes : List ℕ) → Status → Type 0
@@ -45,7 +47,7 @@ one_order : HasOneNetlist → HasOneDesign → HasOneCertifying → HasOneLoadin
 one_order one_netlist one_design one_certifying one_loading one_checking one_opening one_head one_bound one_end Run fs words bytes o = one_run one_netlist one_design one_opening one_head one_bound one_end fs words bytes o
 one_order one_netlist one_design one_certifying one_loading one_checking one_opening one_head one_bound one_end Certify fs words bytes o = one_certify one_netlist one_design one_certifying fs words o
 one_order one_netlist one_design one_certifying one_loading one_checking one_opening one_head one_bound one_end Check fs words bytes o = one_check one_netlist one_design one_loading one_checking fs words o
-one_order one_netlist one_design one_certifying one_loading one_checking one_opening one_head one_bound one_end Report fs words bytes o = one_value (Unbuilt 1)
+one_order one_netlist one_design one_certifying one_loading one_checking one_opening one_head one_bound one_end Report fs words bytes o = one_report one_netlist one_design one_bound fs words o
 one_order one_netlist one_design one_certifying one_loading one_checking one_opening one_head one_bound one_end Soak fs words bytes o = one_value (Unbuilt 1)
 
 one_words : HasOneNetlist → HasOneDesign → HasOneCertifying → HasOneLoading → HasOneChecking → HasOneOpening → IsOneHead → HasOneBound → HasOneEnd
@@ -58,7 +60,7 @@ order_done : (c : Command) (fs : Files) (words : List (List ℕ)) (bytes : List 
 order_done Run fs words bytes left' written written' o h = run_done fs words bytes left' written written' o h
 order_done Certify fs words bytes left' written written' o h = certify_done fs words (Some bytes) left' written written' o h
 order_done Check fs words bytes left' written written' o h = check_done fs words (Some bytes) left' written written' o h
-order_done Report fs words bytes left' written written' o h = absurd h
+order_done Report fs words bytes left' written written' o h = report_done fs words (Some bytes) left' written written' o h
 order_done Soak fs words bytes left' written written' o h = absurd h
 
 order_refused : (c : Command) (fs : Files) (words : List (List ℕ)) (bytes : List ℕ) (left' written written' : Option (List ℕ)) (o : Order) (s : Status)
@@ -66,7 +68,7 @@ order_refused : (c : Command) (fs : Files) (words : List (List ℕ)) (bytes : Li
 order_refused Run fs words bytes left' written written' o s r h = run_trace fs words bytes left' written written' o s r h
 order_refused Certify fs words bytes left' written written' o s r h = certify_trace fs words (Some bytes) left' written written' o s r h
 order_refused Check fs words bytes left' written written' o s r h = check_trace fs words (Some bytes) left' written written' o s r h
-order_refused Report fs words bytes left' written written' o s r h = h.is
+order_refused Report fs words bytes left' written written' o s r h = report_trace fs words (Some bytes) left' written written' o s r h
 order_refused Soak fs words bytes left' written written' o s r h = h.is
 
 words_trace : (m : Result Order UsageFault) (fs : Files) (words : List (List ℕ)) (bytes : List ℕ) (left' written written' : Option (List ℕ)) (s : Status)
@@ -106,6 +108,16 @@ run_complete one_netlist one_design one_certifying one_loading one_checking one_
     (run_trace fs w.words can.bytes w.left' w.written w.written' o s r both) all)
     n load read write (λ e. subst (RefusesRun w o) e refused)
 
+report_complete : HasOneNetlist → HasOneDesign → HasOneCertifying → HasOneLoading → HasOneChecking → HasOneOpening → IsOneHead → HasOneBound → HasOneEnd → (w : World) (o : Order) (s : Status) → CanReport w o → RefusesReport w o s
+    → s ≢ Done → s ≢ LoadFault → s ≢ ReadFault → s ≢ WriteFault → s ≡ NoMemory
+report_complete one_netlist one_design one_certifying one_loading one_checking one_opening one_head one_bound one_end w o s can refused n load read write =
+    let fs = can.finds.files in
+    let told = subst (λ f. RefusesReport (world w.words f w.left w.left' w.written w.written') o s) can.finds.told refused in
+    let all = reported fs w.words o can.finds.design can.bounds can.finds.networks can.bounded in
+    only_memory s (rests_on_told s) refl
+    (λ r. one_report one_netlist one_design one_bound fs w.words o s Done (report_trace fs w.words w.left w.left' w.written w.written' o s r told) all)
+    n load read write (λ e. subst (RefusesReport w o) e refused)
+
 certify_complete : HasOneNetlist → HasOneDesign → HasOneCertifying → HasOneLoading → HasOneChecking → HasOneOpening → IsOneHead → HasOneBound → HasOneEnd → (w : World) (o : Order) (s : Status) → CanCertify w o → RefusesCertify w o s
     → s ≢ Done → s ≢ LoadFault → s ≢ ReadFault → s ≢ WriteFault → s ≡ NoMemory
 certify_complete one_netlist one_design one_certifying one_loading one_checking one_opening one_head one_bound one_end w o s can refused n load read write =
@@ -131,7 +143,7 @@ order_complete : HasOneNetlist → HasOneDesign → HasOneCertifying → HasOneL
 order_complete one_netlist one_design one_certifying one_loading one_checking one_opening one_head one_bound one_end Run w o s can refused n load read write = run_complete one_netlist one_design one_certifying one_loading one_checking one_opening one_head one_bound one_end w o s can refused n load read write
 order_complete one_netlist one_design one_certifying one_loading one_checking one_opening one_head one_bound one_end Certify w o s can refused n load read write = certify_complete one_netlist one_design one_certifying one_loading one_checking one_opening one_head one_bound one_end w o s can refused n load read write
 order_complete one_netlist one_design one_certifying one_loading one_checking one_opening one_head one_bound one_end Check w o s can refused n load read write = check_complete one_netlist one_design one_certifying one_loading one_checking one_opening one_head one_bound one_end w o s can refused n load read write
-order_complete one_netlist one_design one_certifying one_loading one_checking one_opening one_head one_bound one_end Report w o s can refused n load read write = absurd can
+order_complete one_netlist one_design one_certifying one_loading one_checking one_opening one_head one_bound one_end Report w o s can refused n load read write = report_complete one_netlist one_design one_certifying one_loading one_checking one_opening one_head one_bound one_end w o s can refused n load read write
 order_complete one_netlist one_design one_certifying one_loading one_checking one_opening one_head one_bound one_end Soak w o s can refused n load read write = absurd can
 
 pub complete : HasOneNetlist → HasOneDesign → HasOneCertifying → HasOneLoading → HasOneChecking → HasOneOpening → IsOneHead → HasOneBound → HasOneEnd → (m : Result Order UsageFault) (w : World) (s : Status) → CanDoWords m w → RefusesWords m w s

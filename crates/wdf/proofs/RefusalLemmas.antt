@@ -25,7 +25,7 @@ order_not_done : (c : Command) (w : World) (o : Order) → RefusesOrder c w o Do
 order_not_done commands.Run w o h = h
 order_not_done commands.Certify w o h = h
 order_not_done commands.Check w o h = h
-order_not_done commands.Report w o h = let e = h.is in absurd (cc)
+order_not_done commands.Report w o h = h
 order_not_done commands.Soak w o h = let e = h.is in absurd (cc)
 
 pub not_done : (m : Result Order UsageFault) (w : World) → RefusesWords m w Done → ⊥
@@ -46,7 +46,7 @@ order_line : (c : Command) (w : World) (o : Order) (side : Side) (fault : CertFa
 order_line commands.Run w o side fault h = absurd h
 order_line commands.Certify w o side fault h = absurd h
 order_line commands.Check w o side fault h = wrong_line h.has.design.networks h.has.certs.first h.has.certs.second side fault h.refuses
-order_line commands.Report w o side fault h = let e = h.is in absurd (cc)
+order_line commands.Report w o side fault h = absurd h
 order_line commands.Soak w o side fault h = let e = h.is in absurd (cc)
 
 words_line : (m : Result Order UsageFault) (w : World) (side : Side) (fault : CertFault) → RefusesWords m w (CertWrong side fault) → fault ≢ faults.NoMemory

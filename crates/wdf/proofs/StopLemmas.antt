@@ -14,12 +14,15 @@ use Rattle.wdf.specs.declared.certifying_stop.CertifyingStop.{CertifyingStop}
 use Rattle.wdf.specs.declared.certifying_stop.CertifyingStop.TheVariants as certifying
 use Rattle.wdf.specs.declared.checking_stop.CheckingStop.{CheckingStop}
 use Rattle.wdf.specs.declared.checking_stop.CheckingStop.TheVariants as checking
+use Rattle.wdf.specs.declared.reporting_stop.ReportingStop.{ReportingStop}
+use Rattle.wdf.specs.declared.reporting_stop.ReportingStop.TheVariants as reporting
 use Rattle.wdf.specs.declared.filtering_stop.FilteringStop.{FilteringStop}
 use Rattle.wdf.specs.declared.filtering_stop.FilteringStop.TheVariants as filtering
 use Rattle.wdf.specs.World.{World}
-use Rattle.wdf.specs.Statuses.{status_of_certifying, status_of_checking, status_of_filtering}
+use Rattle.wdf.specs.Statuses.{status_of_certifying, status_of_checking, status_of_reporting, status_of_filtering}
 use Rattle.wdf.specs.CertifyAnswer.{CertifyStops, RefusesCertify}
 use Rattle.wdf.specs.CheckAnswer.{CheckStops, RefusesCheck}
+use Rattle.wdf.specs.ReportAnswer.{ReportStops, RefusesReport}
 use Rattle.wdf.specs.RunAnswer.{RunStops, RefusesRun}
 
 -- ---- `certify`
@@ -56,6 +59,22 @@ check_row w o (checking.Load loads.NoMemory) h = inr (inl h)
 check_row w o (checking.Check (checks.CertWrong side fault)) h = h
 check_row w o (checking.Check checks.NoMemory) h = inr (inr h)
 check_row w o checking.Write h = h
+
+-- ---- `report`
+
+pub report_row : (w : World) (o : Order) (stop : ReportingStop) → ReportStops w o stop → RefusesReport w o (status_of_reporting stop)
+report_row w o (reporting.Networks (Netlist (netlists.Missing word))) h = h
+report_row w o (reporting.Networks (Netlist (netlists.FileTooLarge word))) h = h
+report_row w o (reporting.Networks (Netlist (netlists.NetText fault))) h = h
+report_row w o (reporting.Networks (Netlist netlists.LoadFault)) h = h
+report_row w o (reporting.Networks (Netlist netlists.NoMemory)) h = inl (inl h)
+report_row w o (reporting.Networks (Design (designs.NotSeriesParallel side element core))) h = h
+report_row w o (reporting.Networks (Design (designs.PortRange side element low))) h = h
+report_row w o (reporting.Networks (Design designs.NoMemory)) h = inl (inr h)
+report_row w o (reporting.Bound (bounds.Bound side element ratio need limit)) h = h
+report_row w o (reporting.Bound bounds.NoMemory) h = inr (inl h)
+report_row w o reporting.NoMemory h = inr (inr h)
+report_row w o reporting.Write h = h
 
 -- ---- `run`
 

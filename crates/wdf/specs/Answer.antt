@@ -12,6 +12,7 @@ use Rattle.wdf.specs.World.{World, IsQuiet}
 use Rattle.wdf.specs.Statuses.{status_of_usage}
 use Rattle.wdf.specs.CertifyAnswer.{DoneCertify, RefusesCertify}
 use Rattle.wdf.specs.CheckAnswer.{DoneCheck, RefusesCheck}
+use Rattle.wdf.specs.ReportAnswer.{DoneReport, RefusesReport}
 use Rattle.wdf.specs.RunAnswer.{DoneRun, RefusesRun}
 
 -- this is the answer, and nothing was read or written
@@ -24,7 +25,7 @@ abbrev pub DoesOrder : Command → World → Order → Type 0
 DoesOrder Run w o = DoneRun w o
 DoesOrder Certify w o = DoneCertify w o
 DoesOrder Check w o = DoneCheck w o
-DoesOrder Report w o = ⊥
+DoesOrder Report w o = DoneReport w o
 DoesOrder Soak w o = ⊥
 
 -- why it was not done
@@ -32,7 +33,7 @@ abbrev pub RefusesOrder : Command → World → Order → Status → Type 0
 RefusesOrder Run w o s = RefusesRun w o s
 RefusesOrder Certify w o s = RefusesCertify w o s
 RefusesOrder Check w o s = RefusesCheck w o s
-RefusesOrder Report w o s = Answers w s (Unbuilt 1)
+RefusesOrder Report w o s = RefusesReport w o s
 RefusesOrder Soak w o s = Answers w s (Unbuilt 1)
 
 -- what words did, by what they ask for

@@ -18,6 +18,7 @@ use Rattle.wdf_words.specs.Orders.{order_of}
 use Rattle.wdf.specs.declared.designed.Designed.{Designed}
 use Rattle.wdf.specs.World.{World}
 use Rattle.wdf.specs.NetworksAnswer.{HasNetworks, name_of}
+use Rattle.wdf.specs.ReportAnswer.{report_plan}
 use Rattle.wdf.specs.RunAnswer.{terms_for, plan_in, setting_for}
 
 -- the shelf tells its files, and the one that the words name stands for a netlist with networks
@@ -40,6 +41,12 @@ pub record CanCheck (w : World) (o : Order) : Type 0 where
   pub loads : LoadsCerts (Some finds.files) (name_of w.words o.cert) certs
   pub certified : CertifiesEach finds.design.networks certs.first certs.second
 
+-- for `report`: the plan fits them
+pub record CanReport (w : World) (o : Order) : Type 0 where
+  pub finds : FindsNetworks w o
+  pub bounds : PlanBounds
+  pub bounded : AreBounded finds.design.networks (report_plan o) bounds
+
 -- for `run`: the input is told, begins with the head of a wave for the networks, whose plan fits them, and holds all of
 -- its frames, with no sample over amp
 pub record CanRun (w : World) (o : Order) : Type 0 where
@@ -58,7 +65,7 @@ abbrev pub CanDo : Command → World → Order → Type 0
 CanDo Run w o = CanRun w o
 CanDo Certify w o = CanCertify w o
 CanDo Check w o = CanCheck w o
-CanDo Report w o = ⊥
+CanDo Report w o = CanReport w o
 CanDo Soak w o = ⊥
 
 abbrev pub CanDoWords : Result Order UsageFault → World → Type 0

@@ -5,6 +5,7 @@ pub mod CheckAnswer
 pub mod Complete
 pub mod Filtered
 pub mod NetworksAnswer
+pub mod ReportAnswer
 pub mod RunAnswer
 pub mod Runs
 pub mod Statuses

@@ -24,6 +24,8 @@ use Rattle.wdf.specs.declared.certifying_stop.CertifyingStop.{CertifyingStop}
 use Rattle.wdf.specs.declared.certifying_stop.CertifyingStop.TheVariants as certifying
 use Rattle.wdf.specs.declared.checking_stop.CheckingStop.{CheckingStop}
 use Rattle.wdf.specs.declared.checking_stop.CheckingStop.TheVariants as checking
+use Rattle.wdf.specs.declared.reporting_stop.ReportingStop.{ReportingStop}
+use Rattle.wdf.specs.declared.reporting_stop.ReportingStop.TheVariants as reporting
 use Rattle.wdf.specs.declared.filtering_stop.FilteringStop.{FilteringStop}
 use Rattle.wdf.specs.declared.filtering_stop.FilteringStop.TheVariants as filtering
 
@@ -76,7 +78,17 @@ status_of_checking (checking.Load stop) = status_of_load stop
 status_of_checking (checking.Check stop) = status_of_check stop
 status_of_checking checking.Write = WriteFault
 
--- ---- the command `run`
+-- ---- the commands `report` and `run`
+
+abbrev pub status_of_bound : BoundStop → Status
+status_of_bound (bounds.Bound side element ratio need limit) = Bound side element ratio need limit
+status_of_bound bounds.NoMemory = NoMemory
+
+abbrev pub status_of_reporting : ReportingStop → Status
+status_of_reporting (reporting.Networks stop) = status_of_networks stop
+status_of_reporting (reporting.Bound stop) = status_of_bound stop
+status_of_reporting reporting.NoMemory = NoMemory
+status_of_reporting reporting.Write = WriteFault
 
 abbrev pub status_of_open : OpenStop → Status
 status_of_open (opens.BadWave kind at) = BadWave kind at
@@ -84,10 +96,6 @@ status_of_open (opens.RateMismatch netlist wave) = RateMismatch netlist wave
 status_of_open (opens.ChannelCount have want) = ChannelCount have want
 status_of_open (opens.TooLong frames limit) = TooLong frames limit
 status_of_open opens.ReadFault = ReadFault
-
-abbrev pub status_of_bound : BoundStop → Status
-status_of_bound (bounds.Bound side element ratio need limit) = Bound side element ratio need limit
-status_of_bound bounds.NoMemory = NoMemory
 
 abbrev pub status_of_frame : FrameStop → Status
 status_of_frame (frames_.Amplitude frame channel sample) = Amplitude frame channel sample

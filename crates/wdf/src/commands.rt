@@ -6,12 +6,14 @@ ghost use Rattle.wdf_io.specs.Causes.{Rose};
 ghost use Rattle.wdf_words.specs.Orders.{HasRanges, IsFileNamed, texts};
 ghost use Rattle.wdf.specs.CertifyAnswer.{DoneCertify, RefusesCertify};
 ghost use Rattle.wdf.specs.CheckAnswer.{DoneCheck, RefusesCheck};
+ghost use Rattle.wdf.specs.ReportAnswer.{DoneReport, RefusesReport};
 ghost use Rattle.wdf.specs.RunAnswer.{DoneRun, RefusesRun};
 ghost use Rattle.wdf.specs.World.{world};
 
 use crate::certifying::certify_words;
 use crate::checking::check_words;
 use crate::filtering::filter_words;
+use crate::reporting::report_words;
 use std::alloc::Global;
 use wdf_io::{Shelf, Sink, Source};
 use wdf_report::Status;
@@ -37,6 +39,29 @@ pub fn do_run<H: Shelf, I: Source, O: Sink>(
     ensures write_fault { IsErrOf result Status.WriteFault → Rose (O.faults out.old) (O.faults out.new) }
 {
     match filter_words(alloc, words, order, shelf, input, out) {
+        Ok(()) => Ok(()),
+        Err(stop) => Err(Status::from(stop)),
+    }
+}
+
+/// Does the command `report`.
+pub fn do_report<H: Shelf, O: Sink>(
+    alloc: Global,
+    words: &[String],
+    order: &Order,
+    shelf: &mut H,
+    out: &mut O,
+) -> Result<(), Status>
+    requires ranges { HasRanges order.now }
+    requires named { IsFileNamed (texts words.now) order.now.net }
+    ensures done { (left : Option (List ℕ)) → OnOk result
+        (DoneReport (world (texts words.now) (H.files shelf.old) left left (O.written out.old) (O.written out.new)) order.now) }
+    ensures refused { (left : Option (List ℕ)) → IfErr result
+        (RefusesReport (world (texts words.now) (H.files shelf.old) left left (O.written out.old) (O.written out.new)) order.now) }
+    ensures load_fault { IsErrOf result Status.LoadFault → Rose (H.faults shelf.old) (H.faults shelf.new) }
+    ensures write_fault { IsErrOf result Status.WriteFault → Rose (O.faults out.old) (O.faults out.new) }
+{
+    match report_words(alloc, words, order, shelf, out) {
         Ok(()) => Ok(()),
         Err(stop) => Err(Status::from(stop)),
     }

@@ -16,6 +16,8 @@ mod filtering_stop;
 mod keeping;
 mod laws;
 mod networks_stop;
+mod reporting;
+mod reporting_stop;
 mod run;
 mod statuses;
 #[cfg(test)]
@@ -26,6 +28,7 @@ use checking_stop::CheckingStop;
 use designed::Designed;
 use filtering_stop::FilteringStop;
 use networks_stop::NetworksStop;
+use reporting_stop::ReportingStop;
 use std::env;
 use std::io::ErrorKind;
 use std::process::ExitCode;

@@ -11,7 +11,7 @@ ghost use Rattle.wdf.specs.Filtered.{AsksRun, HasRun};
 ghost use Rattle.wdf.specs.Runs.{KeepEnergy, KeepWords};
 ghost use Rattle.wdf.specs.World.{world};
 
-use crate::commands::{do_certify, do_check, do_run};
+use crate::commands::{do_certify, do_check, do_report, do_run};
 use crate::laws::completeness;
 use crate::statuses::usage_status;
 use std::alloc::Global;
@@ -43,7 +43,8 @@ fn perform<H: Shelf, I: Source, O: Sink>(
         Command::Run => do_run(alloc, words, order, shelf, input, out),
         Command::Certify => do_certify(alloc, words, order, shelf, out),
         Command::Check => do_check(alloc, words, order, shelf, out),
-        Command::Report | Command::Soak => Err(Status::Unbuilt { part: 1 }),
+        Command::Report => do_report(alloc, words, order, shelf, out),
+        Command::Soak => Err(Status::Unbuilt { part: 1 }),
     }
 }
 
@@ -73,9 +74,9 @@ fn attempt<H: Shelf, I: Source, O: Sink>(
 /// operands, and `docs/report.md` the answers.
 ///
 /// `run net=FILE` filters the wave on `input` by the wave digital filter of a netlist on the shelf,
-/// and writes the wave of its load to `out`. `certify net=FILE` writes the certificates of the
-/// netlist's networks, and `check net=FILE cert=FILE` writes `accepted` where a file's certificates
-/// certify them; both leave the input as it is. `report` and `soak` are not built yet.
+/// and writes the wave of its load to `out`. `report net=FILE` writes what the netlist becomes,
+/// `certify net=FILE` the certificates of its networks, and `check net=FILE cert=FILE` writes `accepted`
+/// where a file's certificates certify them; these leave the input as it is. `soak` is not built yet.
 ///
 /// Every answer other than `Done` tries its fault line on the note.
 #[tactic(auto, using(crate::proofs::DoneLemmas::kept_energy, crate::proofs::DoneLemmas::kept_words))]

@@ -1,9 +1,9 @@
 //! The answers that the stops of commands become.
 
 ghost use Rattle.std.specs.Prelude.{◌≡◌};
-ghost use Rattle.wdf.specs.Statuses.{status_of_bound, status_of_certify, status_of_certifying, status_of_check, status_of_checking, status_of_design, status_of_filtering, status_of_frame, status_of_load, status_of_netlist, status_of_networks, status_of_open, status_of_usage};
+ghost use Rattle.wdf.specs.Statuses.{status_of_bound, status_of_certify, status_of_certifying, status_of_check, status_of_checking, status_of_design, status_of_filtering, status_of_frame, status_of_load, status_of_netlist, status_of_networks, status_of_open, status_of_reporting, status_of_usage};
 
-use crate::{CertifyingStop, CheckingStop, FilteringStop, NetworksStop};
+use crate::{CertifyingStop, CheckingStop, FilteringStop, NetworksStop, ReportingStop};
 use wdf_certificates::{CertifyStop, CheckStop, LoadStop};
 use wdf_frames::FrameStop;
 use wdf_report::Status;
@@ -152,6 +152,19 @@ fn bound_status(stop: BoundStop) -> Status
             limit,
         },
         BoundStop::NoMemory => Status::NoMemory,
+    }
+}
+
+impl From<ReportingStop> for Status {
+    ghost from_gives = { λ stop s. s ≡ status_of_reporting stop };
+
+    fn from(stop: ReportingStop) -> Self {
+        match stop {
+            ReportingStop::Networks(stop) => networks_status(stop),
+            ReportingStop::Bound(stop) => bound_status(stop),
+            ReportingStop::NoMemory => Status::NoMemory,
+            ReportingStop::Write => Status::WriteFault,
+        }
     }
 }
 

@@ -10,5 +10,6 @@ mod examples;
 mod failing;
 mod ladder;
 mod refusals;
+mod reports;
 mod streaming;
 mod waves;

@@ -24,8 +24,8 @@ fn push_number(line: &mut Line, label: &[u8], n: u64)
     line.push_u128(u128::from(n));
 }
 
-// A label and the number of up to 128 bits behind it.
-fn push_wide(line: &mut Line, label: &[u8], n: u128)
+/// Appends a label and the decimal digits of a number behind it.
+pub fn push_wide(line: &mut Line, label: &[u8], n: u128)
     requires room { length line.old + length label.now + 39 ≤ MAX_LINE }
     ensures text { line.new ≡ line.old ++ label.now ++ decimal n }
     ensures short { length line.new ≤ length line.old + length label.now + 39 }

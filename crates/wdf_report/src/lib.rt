@@ -12,6 +12,6 @@ mod status;
 mod tests;
 mod usage_kind;
 
-pub use fault_lines::{fault_line, push_branch};
+pub use fault_lines::{fault_line, push_branch, push_wide};
 pub use status::Status;
 pub use usage_kind::UsageKind;

@@ -1,11 +1,11 @@
 //! No clause says when memory is wanting, so a program that always answers so would meet each of them.
 
 use super::calls::{Case, SOUND, is_answered};
-use super::circuits::{CERTIFICATE, DIVIDER, FOUR, LOW_PASS};
+use super::circuits::{CERTIFICATE, DIVIDER, FOUR, LOW_PASS, REPORT};
 use std::test::Fail;
 
 // A call of each command that is built.
-static CALLS: [Case<'static>; 3] = [
+static CALLS: [Case<'static>; 4] = [
     Case {
         words: "run|net=N",
         netlist: DIVIDER,
@@ -13,6 +13,15 @@ static CALLS: [Case<'static>; 3] = [
         input: &FOUR,
         code: 0,
         out: &FOUR,
+        line: "",
+    },
+    Case {
+        words: "report|net=N|guard=0",
+        netlist: LOW_PASS,
+        certificate: b"",
+        input: b"",
+        code: 0,
+        out: REPORT,
         line: "",
     },
     Case {

@@ -10,6 +10,14 @@ pub(super) const LOW_PASS: &[u8] = b"rate 50000\nsource S a 0 1\nc C a 0 10u\nr 
 pub(super) const CERTIFICATE: &[u8] =
     b"wdfcert 1\nk 14\nmultipliers 2 5461 8192\nrows 1 0\ninverse\n1153027054501986302\nend\n";
 
+// Its report under a plan without guard bits.
+pub(super) const REPORT: &[u8] =
+    b"wdf report 1\nform ladder\nrate 50000\nplan k 14 guard 0 shift 0 frames 67108864 amp 32768 bits 16\nroot S\nelement S source ratio 1099511627776 bound 268435456\nelement C c ratio 1099511627776 bound 268423424\nelement L r ratio 1099511627776 bound 268423424\njunction root 5461\njunction parallel 8192\nlargest 268435456 limit 70368744177664\nstates 1 certified yes\n";
+
+// The same with a second capacitor, whose voltage is always that of the first.
+pub(super) const TWIN: &[u8] =
+    b"rate 50000\nsource S a 0 1\nc C1 a 0 10u\nc C2 a 0 10u\nr L a 0 1\nload L\n";
+
 // A bridge: no series or parallel step leads on.
 pub(super) const BRIDGE: &[u8] =
     b"rate 48000\nsource S a 0 1\nr R1 a b 1\nr R2 a c 1\nr R3 b c 1\nr R4 b 0 1\nr R5 c 0 1\nload R3\n";

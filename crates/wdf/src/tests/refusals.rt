@@ -5,7 +5,7 @@ use super::circuits::{BRIDGE, DIVIDER, EXTENSIBLE, FOUR, NONE, STEREO, TWO_SOURC
 use std::test::Fail;
 
 // In the order in which things are looked at.
-static REFUSED: [Case<'static>; 24] = [
+static REFUSED: [Case<'static>; 26] = [
     Case {
         words: "",
         netlist: DIVIDER,
@@ -209,9 +209,27 @@ static REFUSED: [Case<'static>; 24] = [
         netlist: DIVIDER,
         certificate: b"",
         input: &FOUR,
-        code: 21,
+        code: 18,
         out: b"",
-        line: "wdf: 21 unbuilt part 1\n",
+        line: "wdf: 18 missing word 1\n",
+    },
+    Case {
+        words: "report|net=N",
+        netlist: BRIDGE,
+        certificate: b"",
+        input: b"",
+        code: 3,
+        out: b"",
+        line: "wdf: 3 not series-parallel element R1 core 5\n",
+    },
+    Case {
+        words: "report|net=N|k=16|guard=8|bits=32",
+        netlist: DIVIDER,
+        certificate: b"",
+        input: b"",
+        code: 5,
+        out: b"",
+        line: "wdf: 5 bound element S word need 4503599627370496 limit 17592186044416\n",
     },
     Case {
         words: "soak|seed=1|order=5|frames=1000",
