@@ -38,37 +38,37 @@ certified fs words o d text networks h =
     behind_networks fs words o CertifyLater Done d networks
     (passed (IsCertifyAnswer d.netlist.form d.networks) (λ text s. s ≡ Done) status_of_certify text Done h refl)
 
-at_certify : (fs : Files) (words : List (List ℕ)) (left left' written written' : Option (List ℕ)) (o : Order) (stop : CertifyStop) (h : AtCertify (world words (Some fs) left left' written written') o stop)
+at_certify : (fs : Files) (words : List (List ℕ)) (left left' written written' noted noted' : Option (List ℕ)) (o : Order) (stop : CertifyStop) (h : AtCertify (world words (Some fs) left left' written written' noted noted') o stop)
     → IsCertifyAnswer h.design.netlist.form h.design.networks (Err stop) → CertifyTrace fs words o (status_of_certify stop)
-at_certify fs words left left' written written' o stop h allowed =
+at_certify fs words left left' written written' noted noted' o stop h allowed =
     behind_networks fs words o CertifyLater (status_of_certify stop) h.design h.networks
     (stopped (IsCertifyAnswer h.design.netlist.form h.design.networks) (λ text s. s ≡ Done) status_of_certify stop allowed)
 
-pub certify_done : (fs : Files) (words : List (List ℕ)) (left left' written written' : Option (List ℕ)) (o : Order) → DoneCertify (world words (Some fs) left left' written written') o → CertifyTrace fs words o Done
-certify_done fs words left left' written written' o h = certified fs words o h.has.design h.text h.has.networks h.has.certified
+pub certify_done : (fs : Files) (words : List (List ℕ)) (left left' written written' noted noted' : Option (List ℕ)) (o : Order) → DoneCertify (world words (Some fs) left left' written written' noted noted') o → CertifyTrace fs words o Done
+certify_done fs words left left' written written' noted noted' o h = certified fs words o h.has.design h.text h.has.networks h.has.certified
 
-pub certify_trace : (fs : Files) (words : List (List ℕ)) (left left' written written' : Option (List ℕ)) (o : Order) (s : Status)
-    → IsTrue (rests_on_told s) → RefusesCertify (world words (Some fs) left left' written written') o s → CertifyTrace fs words o s
-certify_trace fs words left left' written written' o Done r h = networks_trace fs words left left' written written' o CertifyLater Done r h
-certify_trace fs words left left' written written' o (Usage word kind) r h = networks_trace fs words left left' written written' o CertifyLater (Usage word kind) r h
-certify_trace fs words left left' written written' o (NetText fault) r h = networks_trace fs words left left' written written' o CertifyLater (NetText fault) r h
-certify_trace fs words left left' written written' o (NotSeriesParallel side element core) r h = networks_trace fs words left left' written written' o CertifyLater (NotSeriesParallel side element core) r h
-certify_trace fs words left left' written written' o (PortRange side element low) r h = networks_trace fs words left left' written written' o CertifyLater (PortRange side element low) r h
-certify_trace fs words left left' written written' o (Bound side element ratio need limit) r h = networks_trace fs words left left' written written' o CertifyLater (Bound side element ratio need limit) r h
-certify_trace fs words left left' written written' o (BadWave kind at) r h = networks_trace fs words left left' written written' o CertifyLater (BadWave kind at) r h
-certify_trace fs words left left' written written' o (RateMismatch netlist wave) r h = networks_trace fs words left left' written written' o CertifyLater (RateMismatch netlist wave) r h
-certify_trace fs words left left' written written' o (TooLong frames limit) r h = networks_trace fs words left left' written written' o CertifyLater (TooLong frames limit) r h
-certify_trace fs words left left' written written' o (Amplitude frame channel sample) r h = networks_trace fs words left left' written written' o CertifyLater (Amplitude frame channel sample) r h
-certify_trace fs words left left' written written' o (Truncated frames) r h = networks_trace fs words left left' written written' o CertifyLater (Truncated frames) r h
-certify_trace fs words left left' written written' o (Unobservable side element kernel) r h = at_certify fs words left left' written written' o (certifies.Unobservable side element kernel) h (refl, h.refuses)
-certify_trace fs words left left' written written' o (CertText at range) r h = networks_trace fs words left left' written written' o CertifyLater (CertText at range) r h
-certify_trace fs words left left' written written' o (CertWrong side fault) r h = networks_trace fs words left left' written written' o CertifyLater (CertWrong side fault) r h
-certify_trace fs words left left' written written' o ReadFault r h = absurd (no r)
-certify_trace fs words left left' written written' o WriteFault r h = absurd (no r)
-certify_trace fs words left left' written written' o NoteFault r h = absurd (no r)
-certify_trace fs words left left' written written' o LoadFault r h = absurd (no r)
-certify_trace fs words left left' written written' o (Missing word) r h = networks_trace fs words left left' written written' o CertifyLater (Missing word) r h
-certify_trace fs words left left' written written' o (FileTooLarge word) r h = networks_trace fs words left left' written written' o CertifyLater (FileTooLarge word) r h
-certify_trace fs words left left' written written' o NoMemory r h = absurd (no r)
-certify_trace fs words left left' written written' o (Unbuilt part) r h = networks_trace fs words left left' written written' o CertifyLater (Unbuilt part) r h
-certify_trace fs words left left' written written' o (ChannelCount have want) r h = networks_trace fs words left left' written written' o CertifyLater (ChannelCount have want) r h
+pub certify_trace : (fs : Files) (words : List (List ℕ)) (left left' written written' noted noted' : Option (List ℕ)) (o : Order) (s : Status)
+    → IsTrue (rests_on_told s) → RefusesCertify (world words (Some fs) left left' written written' noted noted') o s → CertifyTrace fs words o s
+certify_trace fs words left left' written written' noted noted' o Done r h = networks_trace fs words left left' written written' noted noted' o CertifyLater Done r h
+certify_trace fs words left left' written written' noted noted' o (Usage word kind) r h = networks_trace fs words left left' written written' noted noted' o CertifyLater (Usage word kind) r h
+certify_trace fs words left left' written written' noted noted' o (NetText fault) r h = networks_trace fs words left left' written written' noted noted' o CertifyLater (NetText fault) r h
+certify_trace fs words left left' written written' noted noted' o (NotSeriesParallel side element core) r h = networks_trace fs words left left' written written' noted noted' o CertifyLater (NotSeriesParallel side element core) r h
+certify_trace fs words left left' written written' noted noted' o (PortRange side element low) r h = networks_trace fs words left left' written written' noted noted' o CertifyLater (PortRange side element low) r h
+certify_trace fs words left left' written written' noted noted' o (Bound side element ratio need limit) r h = networks_trace fs words left left' written written' noted noted' o CertifyLater (Bound side element ratio need limit) r h
+certify_trace fs words left left' written written' noted noted' o (BadWave kind at) r h = networks_trace fs words left left' written written' noted noted' o CertifyLater (BadWave kind at) r h
+certify_trace fs words left left' written written' noted noted' o (RateMismatch netlist wave) r h = networks_trace fs words left left' written written' noted noted' o CertifyLater (RateMismatch netlist wave) r h
+certify_trace fs words left left' written written' noted noted' o (TooLong frames limit) r h = networks_trace fs words left left' written written' noted noted' o CertifyLater (TooLong frames limit) r h
+certify_trace fs words left left' written written' noted noted' o (Amplitude frame channel sample) r h = networks_trace fs words left left' written written' noted noted' o CertifyLater (Amplitude frame channel sample) r h
+certify_trace fs words left left' written written' noted noted' o (Truncated frames) r h = networks_trace fs words left left' written written' noted noted' o CertifyLater (Truncated frames) r h
+certify_trace fs words left left' written written' noted noted' o (Unobservable side element kernel) r h = at_certify fs words left left' written written' noted noted' o (certifies.Unobservable side element kernel) h (refl, h.refuses)
+certify_trace fs words left left' written written' noted noted' o (CertText at range) r h = networks_trace fs words left left' written written' noted noted' o CertifyLater (CertText at range) r h
+certify_trace fs words left left' written written' noted noted' o (CertWrong side fault) r h = networks_trace fs words left left' written written' noted noted' o CertifyLater (CertWrong side fault) r h
+certify_trace fs words left left' written written' noted noted' o ReadFault r h = absurd (no r)
+certify_trace fs words left left' written written' noted noted' o WriteFault r h = absurd (no r)
+certify_trace fs words left left' written written' noted noted' o NoteFault r h = absurd (no r)
+certify_trace fs words left left' written written' noted noted' o LoadFault r h = absurd (no r)
+certify_trace fs words left left' written written' noted noted' o (Missing word) r h = networks_trace fs words left left' written written' noted noted' o CertifyLater (Missing word) r h
+certify_trace fs words left left' written written' noted noted' o (FileTooLarge word) r h = networks_trace fs words left left' written written' noted noted' o CertifyLater (FileTooLarge word) r h
+certify_trace fs words left left' written written' noted noted' o NoMemory r h = absurd (no r)
+certify_trace fs words left left' written written' noted noted' o (Unbuilt part) r h = networks_trace fs words left left' written written' noted noted' o CertifyLater (Unbuilt part) r h
+certify_trace fs words left left' written written' noted noted' o (ChannelCount have want) r h = networks_trace fs words left left' written written' noted noted' o CertifyLater (ChannelCount have want) r h

@@ -49,55 +49,55 @@ accepted fs words o d certs networks loaded certified =
     (passed (IsLoadAnswer fs (word_of o.cert) (name_of words o.cert)) (CertsTrace d.networks) status_of_load certs Done loaded
     (passed (IsCheckAnswer d.networks certs.first certs.second) (λ u s. s ≡ Done) status_of_check tt Done certified refl))
 
-at_load : (fs : Files) (words : List (List ℕ)) (left left' written written' : Option (List ℕ)) (o : Order) (stop : LoadStop) (h : AtCertLoad (world words (Some fs) left left' written written') o stop)
+at_load : (fs : Files) (words : List (List ℕ)) (left left' written written' noted noted' : Option (List ℕ)) (o : Order) (stop : LoadStop) (h : AtCertLoad (world words (Some fs) left left' written written' noted noted') o stop)
     → IsLoadAnswer fs (word_of o.cert) (name_of words o.cert) (Err stop) → CheckTrace fs words o (status_of_load stop)
-at_load fs words left left' written written' o stop h allowed =
+at_load fs words left left' written written' noted noted' o stop h allowed =
     behind_networks fs words o (CheckLater fs words o) (status_of_load stop) h.design h.networks
     (stopped (IsLoadAnswer fs (word_of o.cert) (name_of words o.cert)) (CertsTrace h.design.networks) status_of_load stop allowed)
 
-at_check : (fs : Files) (words : List (List ℕ)) (left left' written written' : Option (List ℕ)) (o : Order) (stop : CheckStop) (h : AtCheck (world words (Some fs) left left' written written') o stop)
+at_check : (fs : Files) (words : List (List ℕ)) (left left' written written' noted noted' : Option (List ℕ)) (o : Order) (stop : CheckStop) (h : AtCheck (world words (Some fs) left left' written written' noted noted') o stop)
     → IsCheckAnswer h.has.design.networks h.has.certs.first h.has.certs.second (Err stop) → CheckTrace fs words o (status_of_check stop)
-at_check fs words left left' written written' o stop h allowed =
+at_check fs words left left' written written' noted noted' o stop h allowed =
     behind_networks fs words o (CheckLater fs words o) (status_of_check stop) h.has.design h.has.networks
     (passed (IsLoadAnswer fs (word_of o.cert) (name_of words o.cert)) (CertsTrace h.has.design.networks) status_of_load h.has.certs (status_of_check stop) h.has.loads
     (stopped (IsCheckAnswer h.has.design.networks h.has.certs.first h.has.certs.second) (λ u s. s ≡ Done) status_of_check stop allowed))
 
-pub check_done : (fs : Files) (words : List (List ℕ)) (left left' written written' : Option (List ℕ)) (o : Order) → DoneCheck (world words (Some fs) left left' written written') o → CheckTrace fs words o Done
-check_done fs words left left' written written' o h =
+pub check_done : (fs : Files) (words : List (List ℕ)) (left left' written written' noted noted' : Option (List ℕ)) (o : Order) → DoneCheck (world words (Some fs) left left' written written' noted noted') o → CheckTrace fs words o Done
+check_done fs words left left' written written' noted noted' o h =
     accepted fs words o h.accepted.has.design h.accepted.has.certs h.accepted.has.networks h.accepted.has.loads h.accepted.certified
 
-missing : (fs : Files) (words : List (List ℕ)) (left left' written written' : Option (List ℕ)) (o : Order) (word : ℕ)
-    → RefusesCheck (world words (Some fs) left left' written written') o (Missing word) → CheckTrace fs words o (Missing word)
-missing fs words left left' written written' o word (inl h) = networks_trace fs words left left' written written' o (CheckLater fs words o) (Missing word) refl h
-missing fs words left left' written written' o word (inr h) = at_load fs words left left' written written' o (loads.Missing word) h (refl, h.refuses)
+missing : (fs : Files) (words : List (List ℕ)) (left left' written written' noted noted' : Option (List ℕ)) (o : Order) (word : ℕ)
+    → RefusesCheck (world words (Some fs) left left' written written' noted noted') o (Missing word) → CheckTrace fs words o (Missing word)
+missing fs words left left' written written' noted noted' o word (inl h) = networks_trace fs words left left' written written' noted noted' o (CheckLater fs words o) (Missing word) refl h
+missing fs words left left' written written' noted noted' o word (inr h) = at_load fs words left left' written written' noted noted' o (loads.Missing word) h (refl, h.refuses)
 
-too_large : (fs : Files) (words : List (List ℕ)) (left left' written written' : Option (List ℕ)) (o : Order) (word : ℕ)
-    → RefusesCheck (world words (Some fs) left left' written written') o (FileTooLarge word) → CheckTrace fs words o (FileTooLarge word)
-too_large fs words left left' written written' o word (inl h) = networks_trace fs words left left' written written' o (CheckLater fs words o) (FileTooLarge word) refl h
-too_large fs words left left' written written' o word (inr h) = at_load fs words left left' written written' o (loads.FileTooLarge word) h (refl, h.refuses)
+too_large : (fs : Files) (words : List (List ℕ)) (left left' written written' noted noted' : Option (List ℕ)) (o : Order) (word : ℕ)
+    → RefusesCheck (world words (Some fs) left left' written written' noted noted') o (FileTooLarge word) → CheckTrace fs words o (FileTooLarge word)
+too_large fs words left left' written written' noted noted' o word (inl h) = networks_trace fs words left left' written written' noted noted' o (CheckLater fs words o) (FileTooLarge word) refl h
+too_large fs words left left' written written' noted noted' o word (inr h) = at_load fs words left left' written written' noted noted' o (loads.FileTooLarge word) h (refl, h.refuses)
 
-pub check_trace : (fs : Files) (words : List (List ℕ)) (left left' written written' : Option (List ℕ)) (o : Order) (s : Status)
-    → IsTrue (rests_on_told s) → RefusesCheck (world words (Some fs) left left' written written') o s → CheckTrace fs words o s
-check_trace fs words left left' written written' o Done r h = networks_trace fs words left left' written written' o (CheckLater fs words o) Done r h
-check_trace fs words left left' written written' o (Usage word kind) r h = networks_trace fs words left left' written written' o (CheckLater fs words o) (Usage word kind) r h
-check_trace fs words left left' written written' o (NetText fault) r h = networks_trace fs words left left' written written' o (CheckLater fs words o) (NetText fault) r h
-check_trace fs words left left' written written' o (NotSeriesParallel side element core) r h = networks_trace fs words left left' written written' o (CheckLater fs words o) (NotSeriesParallel side element core) r h
-check_trace fs words left left' written written' o (PortRange side element low) r h = networks_trace fs words left left' written written' o (CheckLater fs words o) (PortRange side element low) r h
-check_trace fs words left left' written written' o (Bound side element ratio need limit) r h = networks_trace fs words left left' written written' o (CheckLater fs words o) (Bound side element ratio need limit) r h
-check_trace fs words left left' written written' o (BadWave kind at) r h = networks_trace fs words left left' written written' o (CheckLater fs words o) (BadWave kind at) r h
-check_trace fs words left left' written written' o (RateMismatch netlist wave) r h = networks_trace fs words left left' written written' o (CheckLater fs words o) (RateMismatch netlist wave) r h
-check_trace fs words left left' written written' o (TooLong frames limit) r h = networks_trace fs words left left' written written' o (CheckLater fs words o) (TooLong frames limit) r h
-check_trace fs words left left' written written' o (Amplitude frame channel sample) r h = networks_trace fs words left left' written written' o (CheckLater fs words o) (Amplitude frame channel sample) r h
-check_trace fs words left left' written written' o (Truncated frames) r h = networks_trace fs words left left' written written' o (CheckLater fs words o) (Truncated frames) r h
-check_trace fs words left left' written written' o (Unobservable side element kernel) r h = networks_trace fs words left left' written written' o (CheckLater fs words o) (Unobservable side element kernel) r h
-check_trace fs words left left' written written' o (CertText at range) r h = at_load fs words left left' written written' o (loads.CertText at range) h (refl, h.refuses)
-check_trace fs words left left' written written' o (CertWrong side fault) r h = at_check fs words left left' written written' o (checks.CertWrong side fault) h (refl, h.refuses)
-check_trace fs words left left' written written' o ReadFault r h = absurd (no r)
-check_trace fs words left left' written written' o WriteFault r h = absurd (no r)
-check_trace fs words left left' written written' o NoteFault r h = absurd (no r)
-check_trace fs words left left' written written' o LoadFault r h = absurd (no r)
-check_trace fs words left left' written written' o (Missing word) r h = missing fs words left left' written written' o word h
-check_trace fs words left left' written written' o (FileTooLarge word) r h = too_large fs words left left' written written' o word h
-check_trace fs words left left' written written' o NoMemory r h = absurd (no r)
-check_trace fs words left left' written written' o (Unbuilt part) r h = networks_trace fs words left left' written written' o (CheckLater fs words o) (Unbuilt part) r h
-check_trace fs words left left' written written' o (ChannelCount have want) r h = networks_trace fs words left left' written written' o (CheckLater fs words o) (ChannelCount have want) r h
+pub check_trace : (fs : Files) (words : List (List ℕ)) (left left' written written' noted noted' : Option (List ℕ)) (o : Order) (s : Status)
+    → IsTrue (rests_on_told s) → RefusesCheck (world words (Some fs) left left' written written' noted noted') o s → CheckTrace fs words o s
+check_trace fs words left left' written written' noted noted' o Done r h = networks_trace fs words left left' written written' noted noted' o (CheckLater fs words o) Done r h
+check_trace fs words left left' written written' noted noted' o (Usage word kind) r h = networks_trace fs words left left' written written' noted noted' o (CheckLater fs words o) (Usage word kind) r h
+check_trace fs words left left' written written' noted noted' o (NetText fault) r h = networks_trace fs words left left' written written' noted noted' o (CheckLater fs words o) (NetText fault) r h
+check_trace fs words left left' written written' noted noted' o (NotSeriesParallel side element core) r h = networks_trace fs words left left' written written' noted noted' o (CheckLater fs words o) (NotSeriesParallel side element core) r h
+check_trace fs words left left' written written' noted noted' o (PortRange side element low) r h = networks_trace fs words left left' written written' noted noted' o (CheckLater fs words o) (PortRange side element low) r h
+check_trace fs words left left' written written' noted noted' o (Bound side element ratio need limit) r h = networks_trace fs words left left' written written' noted noted' o (CheckLater fs words o) (Bound side element ratio need limit) r h
+check_trace fs words left left' written written' noted noted' o (BadWave kind at) r h = networks_trace fs words left left' written written' noted noted' o (CheckLater fs words o) (BadWave kind at) r h
+check_trace fs words left left' written written' noted noted' o (RateMismatch netlist wave) r h = networks_trace fs words left left' written written' noted noted' o (CheckLater fs words o) (RateMismatch netlist wave) r h
+check_trace fs words left left' written written' noted noted' o (TooLong frames limit) r h = networks_trace fs words left left' written written' noted noted' o (CheckLater fs words o) (TooLong frames limit) r h
+check_trace fs words left left' written written' noted noted' o (Amplitude frame channel sample) r h = networks_trace fs words left left' written written' noted noted' o (CheckLater fs words o) (Amplitude frame channel sample) r h
+check_trace fs words left left' written written' noted noted' o (Truncated frames) r h = networks_trace fs words left left' written written' noted noted' o (CheckLater fs words o) (Truncated frames) r h
+check_trace fs words left left' written written' noted noted' o (Unobservable side element kernel) r h = networks_trace fs words left left' written written' noted noted' o (CheckLater fs words o) (Unobservable side element kernel) r h
+check_trace fs words left left' written written' noted noted' o (CertText at range) r h = at_load fs words left left' written written' noted noted' o (loads.CertText at range) h (refl, h.refuses)
+check_trace fs words left left' written written' noted noted' o (CertWrong side fault) r h = at_check fs words left left' written written' noted noted' o (checks.CertWrong side fault) h (refl, h.refuses)
+check_trace fs words left left' written written' noted noted' o ReadFault r h = absurd (no r)
+check_trace fs words left left' written written' noted noted' o WriteFault r h = absurd (no r)
+check_trace fs words left left' written written' noted noted' o NoteFault r h = absurd (no r)
+check_trace fs words left left' written written' noted noted' o LoadFault r h = absurd (no r)
+check_trace fs words left left' written written' noted noted' o (Missing word) r h = missing fs words left left' written written' noted noted' o word h
+check_trace fs words left left' written written' noted noted' o (FileTooLarge word) r h = too_large fs words left left' written written' noted noted' o word h
+check_trace fs words left left' written written' noted noted' o NoMemory r h = absurd (no r)
+check_trace fs words left left' written written' noted noted' o (Unbuilt part) r h = networks_trace fs words left left' written written' noted noted' o (CheckLater fs words o) (Unbuilt part) r h
+check_trace fs words left left' written written' noted noted' o (ChannelCount have want) r h = networks_trace fs words left left' written written' noted noted' o (CheckLater fs words o) (ChannelCount have want) r h

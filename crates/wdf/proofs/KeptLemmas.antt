@@ -1,5 +1,5 @@
 -- What the laws of networks say of every run of a setting.
-use Rattle.std.proofs.Common.{◌≡◌, ℕ, zero, suc, ◌*◌, ◌/◌, ◌<◌, ◌≤◌, Bool, List, [], ◌∷◌, length, map, take, drop, Some, inl, inr, sym, ap, ◌∙◌, subst, arith}
+use Rattle.std.proofs.Common.{◌≡◌, ℕ, zero, suc, ◌*◌, ◌/◌, ◌<◌, ◌≤◌, ◌-◌, ◌^◌, Bool, true, List, [], ◌∷◌, length, map, take, drop, Some, inl, inr, sym, ap, ◌∙◌, subst, arith}
 use Rattle.std.specs.Prelude.{ℤ, All, unsigned_abs, unwrap_or, if◌then◌else◌, ◌⊎◌}
 use Rattle.std.proofs.Math.Nat.{mul-div_cancel}
 use Rattle.std.proofs.lemmas.Bool.{cases_lt, eq-eqb, ne_eqb}
@@ -22,7 +22,11 @@ use Rattle.wdf_wav.specs.Header.{IsFrameFormat, data_size}
 use Rattle.wdf_wav.specs.Laws.{CountsSamples}
 use Rattle.wdf_frames.specs.Setting.{Setting, AreWithin, runs_of, samples_in}
 use Rattle.wdf_frames.specs.RunFacts.{inputs_on}
-use Rattle.wdf.specs.Runs.{OfEach, KeepsEach, HoldsEach, KeepEnergy, KeepWords, KeepsRuns}
+use Rattle.wdf.specs.Runs.{OfEach, KeepsEach, HoldsEach, KeepEnergy, KeepWords, KeepsRuns, ConductsEach, RulesOutEach, KeepKirchhoff, KeepCertified, NeverReturnsWithin}
+use Rattle.wdf_law.specs.Run.{at_rest}
+use Rattle.wdf_check.specs.Returning.{NeverReturns}
+use Rattle.wdf_reporting.specs.Findings.{IsFinding, AreFindings}
+use Rattle.wdf.proofs.KirchhoffLemmas.{in_run}
 
 -- ---- a law of each network
 
@@ -110,9 +114,26 @@ keep_words s laws counts byte some driven few body size within side n at run sma
 some_byte : (s : Setting) → IsFrameFormat s.head.channels s.head.bits → 0 < s.head.bits / 8
 some_byte s format = let width = format.width in grind arith
 
-pub keeps_runs : (s : Setting) → KeepsEach s.networks → HoldsEach s.networks s.plan → CountsSamples s.head.bits → IsFrameFormat s.head.channels s.head.bits
+-- ---- Kirchhoff's laws
+
+keep_kirchhoff : (s : Setting) → ConductsEach s.networks → (body : List ℕ) → KeepKirchhoff s body
+keep_kirchhoff s laws body side n at run small steps h = (laws side n at, in_run n (at_rest n) (inputs_on s body run n) steps h)
+
+-- ---- certificates
+
+never_within : (plan : PlanOf) (n : Network) → plan.k ≡ n.k → NeverReturns n → NeverReturnsWithin plan n
+never_within plan n width never zs steps small back = never zs steps (subst (λ (k : ℕ). All (λ (z : ℤ). unsigned_abs z ≤ 2 ^ (60 - k)) zs) width small) back
+
+keep_certified : (s : Setting) → HoldsEach s.networks s.plan → RulesOutEach s.networks → (certified : Side → Bool) → AreFindings s.networks certified → KeepCertified s certified
+keep_certified s words rules certified found side n at told =
+    let finding : IsFinding n true = subst (IsFinding n) told (found side n at) in
+    never_within s.plan n (words side n at).0.width ((rules side n at).never finding.0 finding.1.certifies)
+
+pub keeps_runs : (s : Setting) → KeepsEach s.networks → HoldsEach s.networks s.plan → ConductsEach s.networks → RulesOutEach s.networks → CountsSamples s.head.bits → IsFrameFormat s.head.channels s.head.bits
     → 1 ≤ sources_driven s.networks → (1 < sources_driven s.networks → s.head.channels ≡ sources_driven s.networks) → s.head.frames ≤ s.plan.frames → KeepsRuns s
-keeps_runs s energy words counts format some several few = record {
+keeps_runs s energy words conducts rules counts format some several few = record {
+  kirchhoff = keep_kirchhoff s conducts;
   energy = keep_energy s energy;
   words = keep_words s words counts (some_byte s format) format.some_channel (channels_driven s.networks s.head.channels some several) few;
+  certified = keep_certified s words rules;
 }

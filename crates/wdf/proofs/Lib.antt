@@ -8,8 +8,11 @@ mod DoneLemmas
 mod EndLemmas
 mod HeadLemmas
 mod ReportTrace
+mod RunLemmas
 mod RunTrace
 mod StatusLemmas
 mod RefusalLemmas
 mod KeptLemmas
+mod KirchhoffLemmas
+mod NoteLemmas
 mod OneAnswer

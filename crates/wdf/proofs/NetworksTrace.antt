@@ -58,28 +58,28 @@ behind_networks fs words o later s d h behind =
 pub no : false ≡ true → ⊥
 no h = absurd (cc)
 
-pub networks_trace : (fs : Files) (words : List (List ℕ)) (left left' written written' : Option (List ℕ)) (o : Order) (later : Later) (s : Status)
-    → IsTrue (rests_on_told s) → RefusesNetworks (world words (Some fs) left left' written written') o s → NetworksTrace fs words o later s
-networks_trace fs words left left' written written' o later Done r h = absurd h
-networks_trace fs words left left' written written' o later (Usage word kind) r h = absurd h
-networks_trace fs words left left' written written' o later (NetText fault) r h = at_netlist fs words o later (netlists.NetText fault) (refl, h.refuses)
-networks_trace fs words left left' written written' o later (NotSeriesParallel side element core) r h = at_design fs words o later (designs.NotSeriesParallel side element core) h.refuses (refl, h.refuses.refuses)
-networks_trace fs words left left' written written' o later (PortRange side element low) r h = at_design fs words o later (designs.PortRange side element low) h.refuses (refl, h.refuses.refuses)
-networks_trace fs words left left' written written' o later (Bound side element ratio need limit) r h = absurd h
-networks_trace fs words left left' written written' o later (BadWave kind at) r h = absurd h
-networks_trace fs words left left' written written' o later (RateMismatch netlist wave) r h = absurd h
-networks_trace fs words left left' written written' o later (TooLong frames limit) r h = absurd h
-networks_trace fs words left left' written written' o later (Amplitude frame channel sample) r h = absurd h
-networks_trace fs words left left' written written' o later (Truncated frames) r h = absurd h
-networks_trace fs words left left' written written' o later (Unobservable side element kernel) r h = absurd h
-networks_trace fs words left left' written written' o later (CertText at range) r h = absurd h
-networks_trace fs words left left' written written' o later (CertWrong side fault) r h = absurd h
-networks_trace fs words left left' written written' o later ReadFault r h = absurd (no r)
-networks_trace fs words left left' written written' o later WriteFault r h = absurd (no r)
-networks_trace fs words left left' written written' o later NoteFault r h = absurd (no r)
-networks_trace fs words left left' written written' o later LoadFault r h = absurd (no r)
-networks_trace fs words left left' written written' o later (Missing word) r h = at_netlist fs words o later (netlists.Missing word) (refl, h.refuses)
-networks_trace fs words left left' written written' o later (FileTooLarge word) r h = at_netlist fs words o later (netlists.FileTooLarge word) (refl, h.refuses)
-networks_trace fs words left left' written written' o later NoMemory r h = absurd (no r)
-networks_trace fs words left left' written written' o later (Unbuilt part) r h = absurd h
-networks_trace fs words left left' written written' o later (ChannelCount have want) r h = absurd h
+pub networks_trace : (fs : Files) (words : List (List ℕ)) (left left' written written' noted noted' : Option (List ℕ)) (o : Order) (later : Later) (s : Status)
+    → IsTrue (rests_on_told s) → RefusesNetworks (world words (Some fs) left left' written written' noted noted') o s → NetworksTrace fs words o later s
+networks_trace fs words left left' written written' noted noted' o later Done r h = absurd h
+networks_trace fs words left left' written written' noted noted' o later (Usage word kind) r h = absurd h
+networks_trace fs words left left' written written' noted noted' o later (NetText fault) r h = at_netlist fs words o later (netlists.NetText fault) (refl, h.refuses)
+networks_trace fs words left left' written written' noted noted' o later (NotSeriesParallel side element core) r h = at_design fs words o later (designs.NotSeriesParallel side element core) h.refuses (refl, h.refuses.refuses)
+networks_trace fs words left left' written written' noted noted' o later (PortRange side element low) r h = at_design fs words o later (designs.PortRange side element low) h.refuses (refl, h.refuses.refuses)
+networks_trace fs words left left' written written' noted noted' o later (Bound side element ratio need limit) r h = absurd h
+networks_trace fs words left left' written written' noted noted' o later (BadWave kind at) r h = absurd h
+networks_trace fs words left left' written written' noted noted' o later (RateMismatch netlist wave) r h = absurd h
+networks_trace fs words left left' written written' noted noted' o later (TooLong frames limit) r h = absurd h
+networks_trace fs words left left' written written' noted noted' o later (Amplitude frame channel sample) r h = absurd h
+networks_trace fs words left left' written written' noted noted' o later (Truncated frames) r h = absurd h
+networks_trace fs words left left' written written' noted noted' o later (Unobservable side element kernel) r h = absurd h
+networks_trace fs words left left' written written' noted noted' o later (CertText at range) r h = absurd h
+networks_trace fs words left left' written written' noted noted' o later (CertWrong side fault) r h = absurd h
+networks_trace fs words left left' written written' noted noted' o later ReadFault r h = absurd (no r)
+networks_trace fs words left left' written written' noted noted' o later WriteFault r h = absurd (no r)
+networks_trace fs words left left' written written' noted noted' o later NoteFault r h = absurd (no r)
+networks_trace fs words left left' written written' noted noted' o later LoadFault r h = absurd (no r)
+networks_trace fs words left left' written written' noted noted' o later (Missing word) r h = at_netlist fs words o later (netlists.Missing word) (refl, h.refuses)
+networks_trace fs words left left' written written' noted noted' o later (FileTooLarge word) r h = at_netlist fs words o later (netlists.FileTooLarge word) (refl, h.refuses)
+networks_trace fs words left left' written written' noted noted' o later NoMemory r h = absurd (no r)
+networks_trace fs words left left' written written' noted noted' o later (Unbuilt part) r h = absurd h
+networks_trace fs words left left' written written' noted noted' o later (ChannelCount have want) r h = absurd h

@@ -55,38 +55,38 @@ one_words : HasOneNetlist → HasOneDesign → HasOneCertifying → HasOneLoadin
 one_words one_netlist one_design one_certifying one_loading one_checking one_opening one_head one_bound one_end (Ok o) fs words bytes = one_order one_netlist one_design one_certifying one_loading one_checking one_opening one_head one_bound one_end o.command fs words bytes o
 one_words one_netlist one_design one_certifying one_loading one_checking one_opening one_head one_bound one_end (Err fault) fs words bytes = one_value (status_of_usage fault)
 
-order_done : (c : Command) (fs : Files) (words : List (List ℕ)) (bytes : List ℕ) (left' written written' : Option (List ℕ)) (o : Order)
-    → DoesOrder c (world words (Some fs) (Some bytes) left' written written') o → OrderTrace c fs words bytes o Done
-order_done Run fs words bytes left' written written' o h = run_done fs words bytes left' written written' o h
-order_done Certify fs words bytes left' written written' o h = certify_done fs words (Some bytes) left' written written' o h
-order_done Check fs words bytes left' written written' o h = check_done fs words (Some bytes) left' written written' o h
-order_done Report fs words bytes left' written written' o h = report_done fs words (Some bytes) left' written written' o h
-order_done Soak fs words bytes left' written written' o h = absurd h
+order_done : (c : Command) (fs : Files) (words : List (List ℕ)) (bytes : List ℕ) (left' written written' noted noted' : Option (List ℕ)) (o : Order)
+    → DoesOrder c (world words (Some fs) (Some bytes) left' written written' noted noted') o → OrderTrace c fs words bytes o Done
+order_done Run fs words bytes left' written written' noted noted' o h = run_done fs words bytes left' written written' noted noted' o h
+order_done Certify fs words bytes left' written written' noted noted' o h = certify_done fs words (Some bytes) left' written written' noted noted' o h
+order_done Check fs words bytes left' written written' noted noted' o h = check_done fs words (Some bytes) left' written written' noted noted' o h
+order_done Report fs words bytes left' written written' noted noted' o h = report_done fs words (Some bytes) left' written written' noted noted' o h
+order_done Soak fs words bytes left' written written' noted noted' o h = absurd h
 
-order_refused : (c : Command) (fs : Files) (words : List (List ℕ)) (bytes : List ℕ) (left' written written' : Option (List ℕ)) (o : Order) (s : Status)
-    → IsTrue (rests_on_told s) → RefusesOrder c (world words (Some fs) (Some bytes) left' written written') o s → OrderTrace c fs words bytes o s
-order_refused Run fs words bytes left' written written' o s r h = run_trace fs words bytes left' written written' o s r h
-order_refused Certify fs words bytes left' written written' o s r h = certify_trace fs words (Some bytes) left' written written' o s r h
-order_refused Check fs words bytes left' written written' o s r h = check_trace fs words (Some bytes) left' written written' o s r h
-order_refused Report fs words bytes left' written written' o s r h = report_trace fs words (Some bytes) left' written written' o s r h
-order_refused Soak fs words bytes left' written written' o s r h = h.is
+order_refused : (c : Command) (fs : Files) (words : List (List ℕ)) (bytes : List ℕ) (left' written written' noted noted' : Option (List ℕ)) (o : Order) (s : Status)
+    → IsTrue (rests_on_told s) → RefusesOrder c (world words (Some fs) (Some bytes) left' written written' noted noted') o s → OrderTrace c fs words bytes o s
+order_refused Run fs words bytes left' written written' noted noted' o s r h = run_trace fs words bytes left' written written' noted noted' o s r h
+order_refused Certify fs words bytes left' written written' noted noted' o s r h = certify_trace fs words (Some bytes) left' written written' noted noted' o s r h
+order_refused Check fs words bytes left' written written' noted noted' o s r h = check_trace fs words (Some bytes) left' written written' noted noted' o s r h
+order_refused Report fs words bytes left' written written' noted noted' o s r h = report_trace fs words (Some bytes) left' written written' noted noted' o s r h
+order_refused Soak fs words bytes left' written written' noted noted' o s r h = h.is
 
-words_trace : (m : Result Order UsageFault) (fs : Files) (words : List (List ℕ)) (bytes : List ℕ) (left' written written' : Option (List ℕ)) (s : Status)
-    → IsTrue (rests_on_told s) → (s ≡ Done → DoesWords m (world words (Some fs) (Some bytes) left' written written'))
-    → (s ≢ Done → RefusesWords m (world words (Some fs) (Some bytes) left' written written') s)
+words_trace : (m : Result Order UsageFault) (fs : Files) (words : List (List ℕ)) (bytes : List ℕ) (left' written written' noted noted' : Option (List ℕ)) (s : Status)
+    → IsTrue (rests_on_told s) → (s ≡ Done → DoesWords m (world words (Some fs) (Some bytes) left' written written' noted noted'))
+    → (s ≢ Done → RefusesWords m (world words (Some fs) (Some bytes) left' written written' noted noted') s)
     → (s ≡ Done) ⊎ (s ≢ Done) → WordsTrace m fs words bytes s
-words_trace (Ok o) fs words bytes left' written written' s r done refused (inl e) =
-    subst (OrderTrace o.command fs words bytes o) (sym e) (order_done o.command fs words bytes left' written written' o (done e))
-words_trace (Ok o) fs words bytes left' written written' s r done refused (inr n) =
-    order_refused o.command fs words bytes left' written written' o s r (refused n)
-words_trace (Err fault) fs words bytes left' written written' s r done refused (inl e) = absurd (done e)
-words_trace (Err fault) fs words bytes left' written written' s r done refused (inr n) = (refused n).is
+words_trace (Ok o) fs words bytes left' written written' noted noted' s r done refused (inl e) =
+    subst (OrderTrace o.command fs words bytes o) (sym e) (order_done o.command fs words bytes left' written written' noted noted' o (done e))
+words_trace (Ok o) fs words bytes left' written written' noted noted' s r done refused (inr n) =
+    order_refused o.command fs words bytes left' written written' noted noted' o s r (refused n)
+words_trace (Err fault) fs words bytes left' written written' noted noted' s r done refused (inl e) = absurd (done e)
+words_trace (Err fault) fs words bytes left' written written' noted noted' s r done refused (inr n) = (refused n).is
 
 pub one_answer : HasOneNetlist → HasOneDesign → HasOneCertifying → HasOneLoading → HasOneChecking → HasOneOpening → IsOneHead → HasOneBound → HasOneEnd → HasOneAnswer
-one_answer one_netlist one_design one_certifying one_loading one_checking one_opening one_head one_bound one_end words fs bytes left left' gained gained' written written' s t r q h k =
+one_answer one_netlist one_design one_certifying one_loading one_checking one_opening one_head one_bound one_end words fs bytes left left' gained gained' written written' told told' noted noted' s t r q h k =
     one_words one_netlist one_design one_certifying one_loading one_checking one_opening one_head one_bound one_end (order_of words) fs words bytes s t
-    (words_trace (order_of words) fs words bytes left gained gained' s r h.done h.refused (is_done s))
-    (words_trace (order_of words) fs words bytes left' written written' t q k.done k.refused (is_done t))
+    (words_trace (order_of words) fs words bytes left gained gained' told told' s r h.done h.refused (is_done s))
+    (words_trace (order_of words) fs words bytes left' written written' noted noted' t q k.done k.refused (is_done t))
 
 -- ---- completeness
 
@@ -96,57 +96,57 @@ only_memory : (s : Status) (b : Bool) → rests_on_told s ≡ b → (IsTrue (res
 only_memory s true e f n load read write note = absurd (n (f e))
 only_memory s false e f n load read write note = no_memory s e load read write note
 
-run_complete : HasOneNetlist → HasOneDesign → HasOneCertifying → HasOneLoading → HasOneChecking → HasOneOpening → IsOneHead → HasOneBound → HasOneEnd → (w : World) (o : Order) (s : Status) → CanRun w o → RefusesRun w o s
-    → s ≢ Done → s ≢ LoadFault → s ≢ ReadFault → s ≢ WriteFault → s ≡ NoMemory
-run_complete one_netlist one_design one_certifying one_loading one_checking one_opening one_head one_bound one_end w o s can refused n load read write =
+run_complete : HasOneNetlist → HasOneDesign → HasOneCertifying → HasOneLoading → HasOneChecking → HasOneOpening → IsOneHead → HasOneBound → HasOneEnd → (w : World) (o : Order) (s : Status) → CanRun w.words w.files w.left o → RefusesRun w o s
+    → s ≢ Done → s ≢ LoadFault → s ≢ ReadFault → s ≢ WriteFault → s ≢ NoteFault → s ≡ NoMemory
+run_complete one_netlist one_design one_certifying one_loading one_checking one_opening one_head one_bound one_end w o s can refused n load read write note =
     let fs = can.finds.files in
-    let told = subst (λ f. RefusesRun (world w.words f w.left w.left' w.written w.written') o s) can.finds.told refused in
-    let both = subst (λ l. RefusesRun (world w.words (Some fs) l w.left' w.written w.written') o s) can.input told in
+    let told = subst (λ f. RefusesRun (world w.words f w.left w.left' w.written w.written' w.noted w.noted') o s) can.finds.tells refused in
+    let both = subst (λ l. RefusesRun (world w.words (Some fs) l w.left' w.written w.written' w.noted w.noted') o s) can.input told in
     let all = filtered fs w.words can.bytes can.rest o can.finds.design can.head can.bounds can.finds.networks can.opens can.bounded can.ends in
     only_memory s (rests_on_told s) refl
     (λ r. one_run one_netlist one_design one_opening one_head one_bound one_end fs w.words can.bytes o s Done
-    (run_trace fs w.words can.bytes w.left' w.written w.written' o s r both) all)
-    n load read write (λ e. subst (RefusesRun w o) e refused)
+    (run_trace fs w.words can.bytes w.left' w.written w.written' w.noted w.noted' o s r both) all)
+    n load read write note
 
-report_complete : HasOneNetlist → HasOneDesign → HasOneCertifying → HasOneLoading → HasOneChecking → HasOneOpening → IsOneHead → HasOneBound → HasOneEnd → (w : World) (o : Order) (s : Status) → CanReport w o → RefusesReport w o s
-    → s ≢ Done → s ≢ LoadFault → s ≢ ReadFault → s ≢ WriteFault → s ≡ NoMemory
-report_complete one_netlist one_design one_certifying one_loading one_checking one_opening one_head one_bound one_end w o s can refused n load read write =
+report_complete : HasOneNetlist → HasOneDesign → HasOneCertifying → HasOneLoading → HasOneChecking → HasOneOpening → IsOneHead → HasOneBound → HasOneEnd → (w : World) (o : Order) (s : Status) → CanReport w.words w.files o → RefusesReport w o s
+    → s ≢ Done → s ≢ LoadFault → s ≢ ReadFault → s ≢ WriteFault → s ≢ NoteFault → s ≡ NoMemory
+report_complete one_netlist one_design one_certifying one_loading one_checking one_opening one_head one_bound one_end w o s can refused n load read write note =
     let fs = can.finds.files in
-    let told = subst (λ f. RefusesReport (world w.words f w.left w.left' w.written w.written') o s) can.finds.told refused in
+    let told = subst (λ f. RefusesReport (world w.words f w.left w.left' w.written w.written' w.noted w.noted') o s) can.finds.tells refused in
     let all = reported fs w.words o can.finds.design can.bounds can.finds.networks can.bounded in
     only_memory s (rests_on_told s) refl
-    (λ r. one_report one_netlist one_design one_bound fs w.words o s Done (report_trace fs w.words w.left w.left' w.written w.written' o s r told) all)
-    n load read write (λ e. subst (RefusesReport w o) e refused)
+    (λ r. one_report one_netlist one_design one_bound fs w.words o s Done (report_trace fs w.words w.left w.left' w.written w.written' w.noted w.noted' o s r told) all)
+    n load read write note
 
-certify_complete : HasOneNetlist → HasOneDesign → HasOneCertifying → HasOneLoading → HasOneChecking → HasOneOpening → IsOneHead → HasOneBound → HasOneEnd → (w : World) (o : Order) (s : Status) → CanCertify w o → RefusesCertify w o s
-    → s ≢ Done → s ≢ LoadFault → s ≢ ReadFault → s ≢ WriteFault → s ≡ NoMemory
-certify_complete one_netlist one_design one_certifying one_loading one_checking one_opening one_head one_bound one_end w o s can refused n load read write =
+certify_complete : HasOneNetlist → HasOneDesign → HasOneCertifying → HasOneLoading → HasOneChecking → HasOneOpening → IsOneHead → HasOneBound → HasOneEnd → (w : World) (o : Order) (s : Status) → CanCertify w.words w.files o → RefusesCertify w o s
+    → s ≢ Done → s ≢ LoadFault → s ≢ ReadFault → s ≢ WriteFault → s ≢ NoteFault → s ≡ NoMemory
+certify_complete one_netlist one_design one_certifying one_loading one_checking one_opening one_head one_bound one_end w o s can refused n load read write note =
     let fs = can.finds.files in
-    let told = subst (λ f. RefusesCertify (world w.words f w.left w.left' w.written w.written') o s) can.finds.told refused in
+    let told = subst (λ f. RefusesCertify (world w.words f w.left w.left' w.written w.written' w.noted w.noted') o s) can.finds.tells refused in
     let all = certified fs w.words o can.finds.design can.text can.finds.networks can.certified in
     only_memory s (rests_on_told s) refl
-    (λ r. one_certify one_netlist one_design one_certifying fs w.words o s Done (certify_trace fs w.words w.left w.left' w.written w.written' o s r told) all)
-    n load read write (λ e. subst (RefusesCertify w o) e refused)
+    (λ r. one_certify one_netlist one_design one_certifying fs w.words o s Done (certify_trace fs w.words w.left w.left' w.written w.written' w.noted w.noted' o s r told) all)
+    n load read write note
 
-check_complete : HasOneNetlist → HasOneDesign → HasOneCertifying → HasOneLoading → HasOneChecking → HasOneOpening → IsOneHead → HasOneBound → HasOneEnd → (w : World) (o : Order) (s : Status) → CanCheck w o → RefusesCheck w o s
-    → s ≢ Done → s ≢ LoadFault → s ≢ ReadFault → s ≢ WriteFault → s ≡ NoMemory
-check_complete one_netlist one_design one_certifying one_loading one_checking one_opening one_head one_bound one_end w o s can refused n load read write =
+check_complete : HasOneNetlist → HasOneDesign → HasOneCertifying → HasOneLoading → HasOneChecking → HasOneOpening → IsOneHead → HasOneBound → HasOneEnd → (w : World) (o : Order) (s : Status) → CanCheck w.words w.files o → RefusesCheck w o s
+    → s ≢ Done → s ≢ LoadFault → s ≢ ReadFault → s ≢ WriteFault → s ≢ NoteFault → s ≡ NoMemory
+check_complete one_netlist one_design one_certifying one_loading one_checking one_opening one_head one_bound one_end w o s can refused n load read write note =
     let fs = can.finds.files in
-    let told = subst (λ f. RefusesCheck (world w.words f w.left w.left' w.written w.written') o s) can.finds.told refused in
+    let told = subst (λ f. RefusesCheck (world w.words f w.left w.left' w.written w.written' w.noted w.noted') o s) can.finds.tells refused in
     let all = accepted fs w.words o can.finds.design can.certs can.finds.networks can.loads can.certified in
     only_memory s (rests_on_told s) refl
-    (λ r. one_check one_netlist one_design one_loading one_checking fs w.words o s Done (check_trace fs w.words w.left w.left' w.written w.written' o s r told) all)
-    n load read write (λ e. subst (RefusesCheck w o) e refused)
+    (λ r. one_check one_netlist one_design one_loading one_checking fs w.words o s Done (check_trace fs w.words w.left w.left' w.written w.written' w.noted w.noted' o s r told) all)
+    n load read write note
 
-order_complete : HasOneNetlist → HasOneDesign → HasOneCertifying → HasOneLoading → HasOneChecking → HasOneOpening → IsOneHead → HasOneBound → HasOneEnd → (c : Command) (w : World) (o : Order) (s : Status) → CanDo c w o → RefusesOrder c w o s
-    → s ≢ Done → s ≢ LoadFault → s ≢ ReadFault → s ≢ WriteFault → s ≡ NoMemory
-order_complete one_netlist one_design one_certifying one_loading one_checking one_opening one_head one_bound one_end Run w o s can refused n load read write = run_complete one_netlist one_design one_certifying one_loading one_checking one_opening one_head one_bound one_end w o s can refused n load read write
-order_complete one_netlist one_design one_certifying one_loading one_checking one_opening one_head one_bound one_end Certify w o s can refused n load read write = certify_complete one_netlist one_design one_certifying one_loading one_checking one_opening one_head one_bound one_end w o s can refused n load read write
-order_complete one_netlist one_design one_certifying one_loading one_checking one_opening one_head one_bound one_end Check w o s can refused n load read write = check_complete one_netlist one_design one_certifying one_loading one_checking one_opening one_head one_bound one_end w o s can refused n load read write
-order_complete one_netlist one_design one_certifying one_loading one_checking one_opening one_head one_bound one_end Report w o s can refused n load read write = report_complete one_netlist one_design one_certifying one_loading one_checking one_opening one_head one_bound one_end w o s can refused n load read write
-order_complete one_netlist one_design one_certifying one_loading one_checking one_opening one_head one_bound one_end Soak w o s can refused n load read write = absurd can
+order_complete : HasOneNetlist → HasOneDesign → HasOneCertifying → HasOneLoading → HasOneChecking → HasOneOpening → IsOneHead → HasOneBound → HasOneEnd → (c : Command) (w : World) (o : Order) (s : Status) → CanDo c w.words w.files w.left o → RefusesOrder c w o s
+    → s ≢ Done → s ≢ LoadFault → s ≢ ReadFault → s ≢ WriteFault → s ≢ NoteFault → s ≡ NoMemory
+order_complete one_netlist one_design one_certifying one_loading one_checking one_opening one_head one_bound one_end Run w o s can refused n load read write note = run_complete one_netlist one_design one_certifying one_loading one_checking one_opening one_head one_bound one_end w o s can refused n load read write note
+order_complete one_netlist one_design one_certifying one_loading one_checking one_opening one_head one_bound one_end Certify w o s can refused n load read write note = certify_complete one_netlist one_design one_certifying one_loading one_checking one_opening one_head one_bound one_end w o s can refused n load read write note
+order_complete one_netlist one_design one_certifying one_loading one_checking one_opening one_head one_bound one_end Check w o s can refused n load read write note = check_complete one_netlist one_design one_certifying one_loading one_checking one_opening one_head one_bound one_end w o s can refused n load read write note
+order_complete one_netlist one_design one_certifying one_loading one_checking one_opening one_head one_bound one_end Report w o s can refused n load read write note = report_complete one_netlist one_design one_certifying one_loading one_checking one_opening one_head one_bound one_end w o s can refused n load read write note
+order_complete one_netlist one_design one_certifying one_loading one_checking one_opening one_head one_bound one_end Soak w o s can refused n load read write note = absurd can
 
-pub complete : HasOneNetlist → HasOneDesign → HasOneCertifying → HasOneLoading → HasOneChecking → HasOneOpening → IsOneHead → HasOneBound → HasOneEnd → (m : Result Order UsageFault) (w : World) (s : Status) → CanDoWords m w → RefusesWords m w s
-    → s ≢ Done → s ≢ LoadFault → s ≢ ReadFault → s ≢ WriteFault → s ≡ NoMemory
-complete one_netlist one_design one_certifying one_loading one_checking one_opening one_head one_bound one_end (Ok o) w s can refused n load read write = order_complete one_netlist one_design one_certifying one_loading one_checking one_opening one_head one_bound one_end o.command w o s can refused n load read write
-complete one_netlist one_design one_certifying one_loading one_checking one_opening one_head one_bound one_end (Err fault) w s can refused n load read write = absurd can
+pub complete : HasOneNetlist → HasOneDesign → HasOneCertifying → HasOneLoading → HasOneChecking → HasOneOpening → IsOneHead → HasOneBound → HasOneEnd → (m : Result Order UsageFault) (w : World) (s : Status) → CanDoWords m w.words w.files w.left → RefusesWords m w s
+    → s ≢ Done → s ≢ LoadFault → s ≢ ReadFault → s ≢ WriteFault → s ≢ NoteFault → s ≡ NoMemory
+complete one_netlist one_design one_certifying one_loading one_checking one_opening one_head one_bound one_end (Ok o) w s can refused n load read write note = order_complete one_netlist one_design one_certifying one_loading one_checking one_opening one_head one_bound one_end o.command w o s can refused n load read write note
+complete one_netlist one_design one_certifying one_loading one_checking one_opening one_head one_bound one_end (Err fault) w s can refused n load read write note = absurd can

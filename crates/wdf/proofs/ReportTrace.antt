@@ -39,37 +39,37 @@ reported fs words o d b networks h =
     behind_networks fs words o (ReportLater o) Done d networks
     (passed (IsBoundAnswer d.netlist.form d.networks (report_plan o)) (λ b s. s ≡ Done) status_of_bound b Done h refl)
 
-at_report_bounds : (fs : Files) (words : List (List ℕ)) (left left' written written' : Option (List ℕ)) (o : Order) (stop : BoundStop) (h : AtReportBounds (world words (Some fs) left left' written written') o stop)
+at_report_bounds : (fs : Files) (words : List (List ℕ)) (left left' written written' noted noted' : Option (List ℕ)) (o : Order) (stop : BoundStop) (h : AtReportBounds (world words (Some fs) left left' written written' noted noted') o stop)
     → IsBoundAnswer h.design.netlist.form h.design.networks (report_plan o) (Err stop) → ReportTrace fs words o (status_of_bound stop)
-at_report_bounds fs words left left' written written' o stop h allowed =
+at_report_bounds fs words left left' written written' noted noted' o stop h allowed =
     behind_networks fs words o (ReportLater o) (status_of_bound stop) h.design h.networks
     (stopped (IsBoundAnswer h.design.netlist.form h.design.networks (report_plan o)) (λ b s. s ≡ Done) status_of_bound stop allowed)
 
-pub report_done : (fs : Files) (words : List (List ℕ)) (left left' written written' : Option (List ℕ)) (o : Order) → DoneReport (world words (Some fs) left left' written written') o → ReportTrace fs words o Done
-report_done fs words left left' written written' o h = reported fs words o h.has.planned.design h.has.planned.bounds h.has.planned.networks h.has.planned.bounded
+pub report_done : (fs : Files) (words : List (List ℕ)) (left left' written written' noted noted' : Option (List ℕ)) (o : Order) → DoneReport (world words (Some fs) left left' written written' noted noted') o → ReportTrace fs words o Done
+report_done fs words left left' written written' noted noted' o h = reported fs words o h.has.planned.design h.has.planned.bounds h.has.planned.networks h.has.planned.bounded
 
-pub report_trace : (fs : Files) (words : List (List ℕ)) (left left' written written' : Option (List ℕ)) (o : Order) (s : Status)
-    → IsTrue (rests_on_told s) → RefusesReport (world words (Some fs) left left' written written') o s → ReportTrace fs words o s
-report_trace fs words left left' written written' o Done r h = networks_trace fs words left left' written written' o (ReportLater o) Done r h
-report_trace fs words left left' written written' o (Usage word kind) r h = networks_trace fs words left left' written written' o (ReportLater o) (Usage word kind) r h
-report_trace fs words left left' written written' o (NetText fault) r h = networks_trace fs words left left' written written' o (ReportLater o) (NetText fault) r h
-report_trace fs words left left' written written' o (NotSeriesParallel side element core) r h = networks_trace fs words left left' written written' o (ReportLater o) (NotSeriesParallel side element core) r h
-report_trace fs words left left' written written' o (PortRange side element low) r h = networks_trace fs words left left' written written' o (ReportLater o) (PortRange side element low) r h
-report_trace fs words left left' written written' o (Bound side element ratio need limit) r h = at_report_bounds fs words left left' written written' o (bounds.Bound side element ratio need limit) h (refl, h.refuses)
-report_trace fs words left left' written written' o (BadWave kind at) r h = networks_trace fs words left left' written written' o (ReportLater o) (BadWave kind at) r h
-report_trace fs words left left' written written' o (RateMismatch netlist wave) r h = networks_trace fs words left left' written written' o (ReportLater o) (RateMismatch netlist wave) r h
-report_trace fs words left left' written written' o (TooLong frames limit) r h = networks_trace fs words left left' written written' o (ReportLater o) (TooLong frames limit) r h
-report_trace fs words left left' written written' o (Amplitude frame channel sample) r h = networks_trace fs words left left' written written' o (ReportLater o) (Amplitude frame channel sample) r h
-report_trace fs words left left' written written' o (Truncated frames) r h = networks_trace fs words left left' written written' o (ReportLater o) (Truncated frames) r h
-report_trace fs words left left' written written' o (Unobservable side element kernel) r h = networks_trace fs words left left' written written' o (ReportLater o) (Unobservable side element kernel) r h
-report_trace fs words left left' written written' o (CertText at range) r h = networks_trace fs words left left' written written' o (ReportLater o) (CertText at range) r h
-report_trace fs words left left' written written' o (CertWrong side fault) r h = networks_trace fs words left left' written written' o (ReportLater o) (CertWrong side fault) r h
-report_trace fs words left left' written written' o ReadFault r h = absurd (no r)
-report_trace fs words left left' written written' o WriteFault r h = absurd (no r)
-report_trace fs words left left' written written' o NoteFault r h = absurd (no r)
-report_trace fs words left left' written written' o LoadFault r h = absurd (no r)
-report_trace fs words left left' written written' o (Missing word) r h = networks_trace fs words left left' written written' o (ReportLater o) (Missing word) r h
-report_trace fs words left left' written written' o (FileTooLarge word) r h = networks_trace fs words left left' written written' o (ReportLater o) (FileTooLarge word) r h
-report_trace fs words left left' written written' o NoMemory r h = absurd (no r)
-report_trace fs words left left' written written' o (Unbuilt part) r h = networks_trace fs words left left' written written' o (ReportLater o) (Unbuilt part) r h
-report_trace fs words left left' written written' o (ChannelCount have want) r h = networks_trace fs words left left' written written' o (ReportLater o) (ChannelCount have want) r h
+pub report_trace : (fs : Files) (words : List (List ℕ)) (left left' written written' noted noted' : Option (List ℕ)) (o : Order) (s : Status)
+    → IsTrue (rests_on_told s) → RefusesReport (world words (Some fs) left left' written written' noted noted') o s → ReportTrace fs words o s
+report_trace fs words left left' written written' noted noted' o Done r h = networks_trace fs words left left' written written' noted noted' o (ReportLater o) Done r h
+report_trace fs words left left' written written' noted noted' o (Usage word kind) r h = networks_trace fs words left left' written written' noted noted' o (ReportLater o) (Usage word kind) r h
+report_trace fs words left left' written written' noted noted' o (NetText fault) r h = networks_trace fs words left left' written written' noted noted' o (ReportLater o) (NetText fault) r h
+report_trace fs words left left' written written' noted noted' o (NotSeriesParallel side element core) r h = networks_trace fs words left left' written written' noted noted' o (ReportLater o) (NotSeriesParallel side element core) r h
+report_trace fs words left left' written written' noted noted' o (PortRange side element low) r h = networks_trace fs words left left' written written' noted noted' o (ReportLater o) (PortRange side element low) r h
+report_trace fs words left left' written written' noted noted' o (Bound side element ratio need limit) r h = at_report_bounds fs words left left' written written' noted noted' o (bounds.Bound side element ratio need limit) h (refl, h.refuses)
+report_trace fs words left left' written written' noted noted' o (BadWave kind at) r h = networks_trace fs words left left' written written' noted noted' o (ReportLater o) (BadWave kind at) r h
+report_trace fs words left left' written written' noted noted' o (RateMismatch netlist wave) r h = networks_trace fs words left left' written written' noted noted' o (ReportLater o) (RateMismatch netlist wave) r h
+report_trace fs words left left' written written' noted noted' o (TooLong frames limit) r h = networks_trace fs words left left' written written' noted noted' o (ReportLater o) (TooLong frames limit) r h
+report_trace fs words left left' written written' noted noted' o (Amplitude frame channel sample) r h = networks_trace fs words left left' written written' noted noted' o (ReportLater o) (Amplitude frame channel sample) r h
+report_trace fs words left left' written written' noted noted' o (Truncated frames) r h = networks_trace fs words left left' written written' noted noted' o (ReportLater o) (Truncated frames) r h
+report_trace fs words left left' written written' noted noted' o (Unobservable side element kernel) r h = networks_trace fs words left left' written written' noted noted' o (ReportLater o) (Unobservable side element kernel) r h
+report_trace fs words left left' written written' noted noted' o (CertText at range) r h = networks_trace fs words left left' written written' noted noted' o (ReportLater o) (CertText at range) r h
+report_trace fs words left left' written written' noted noted' o (CertWrong side fault) r h = networks_trace fs words left left' written written' noted noted' o (ReportLater o) (CertWrong side fault) r h
+report_trace fs words left left' written written' noted noted' o ReadFault r h = absurd (no r)
+report_trace fs words left left' written written' noted noted' o WriteFault r h = absurd (no r)
+report_trace fs words left left' written written' noted noted' o NoteFault r h = absurd (no r)
+report_trace fs words left left' written written' noted noted' o LoadFault r h = absurd (no r)
+report_trace fs words left left' written written' noted noted' o (Missing word) r h = networks_trace fs words left left' written written' noted noted' o (ReportLater o) (Missing word) r h
+report_trace fs words left left' written written' noted noted' o (FileTooLarge word) r h = networks_trace fs words left left' written written' noted noted' o (ReportLater o) (FileTooLarge word) r h
+report_trace fs words left left' written written' noted noted' o NoMemory r h = absurd (no r)
+report_trace fs words left left' written written' noted noted' o (Unbuilt part) r h = networks_trace fs words left left' written written' noted noted' o (ReportLater o) (Unbuilt part) r h
+report_trace fs words left left' written written' noted noted' o (ChannelCount have want) r h = networks_trace fs words left left' written written' noted noted' o (ReportLater o) (ChannelCount have want) r h

@@ -98,62 +98,62 @@ one_run one_netlist one_design one_opening one_head one_bound one_end fs words b
 
 -- ---- from what was passed, and from where it stopped
 
-behind_opened : (fs : Files) (words : List (List ℕ)) (bytes : List ℕ) (left' written written' : Option (List ℕ)) (o : Order) (between : Option (List ℕ)) (h : Opened (world words (Some fs) (Some bytes) left' written written') o between) (s : Status)
+behind_opened : (fs : Files) (words : List (List ℕ)) (bytes : List ℕ) (left' written written' noted noted' : Option (List ℕ)) (o : Order) (between : Option (List ℕ)) (h : Opened (world words (Some fs) (Some bytes) left' written written' noted noted') o between) (s : Status)
     → ((rest : List ℕ) → between ≡ Some rest → BoundsTrace o h.design.netlist h.design.networks (h.head, rest) s) → RunTrace fs words bytes o s
-behind_opened fs words bytes left' written written' o None h s next = absurd h.opens.takes.input
-behind_opened fs words bytes left' written written' o (Some rest) h s next =
+behind_opened fs words bytes left' written written' noted noted' o None h s next = absurd h.opens.takes.input
+behind_opened fs words bytes left' written written' noted noted' o (Some rest) h s next =
     behind_networks fs words o (RunLater bytes o) s h.design h.networks
     (passed (IsOpening (terms_for o h.design) bytes) (BoundsTrace o h.design.netlist h.design.networks) status_of_open (h.head, rest) s h.opens (next rest refl))
 
-behind_bounds : (fs : Files) (words : List (List ℕ)) (bytes : List ℕ) (left' written written' : Option (List ℕ)) (o : Order) (between : Option (List ℕ)) (h : Prepared (world words (Some fs) (Some bytes) left' written written') o between) (s : Status)
+behind_bounds : (fs : Files) (words : List (List ℕ)) (bytes : List ℕ) (left' written written' noted noted' : Option (List ℕ)) (o : Order) (between : Option (List ℕ)) (h : Prepared (world words (Some fs) (Some bytes) left' written written' noted noted') o between) (s : Status)
     → ((rest : List ℕ) → between ≡ Some rest → FramesTrace o h.opened.design.netlist h.opened.design.networks h.opened.head rest h.bounds s)
     → RunTrace fs words bytes o s
-behind_bounds fs words bytes left' written written' o between h s next =
-    behind_opened fs words bytes left' written written' o between h.opened s
+behind_bounds fs words bytes left' written written' noted noted' o between h s next =
+    behind_opened fs words bytes left' written written' noted noted' o between h.opened s
     (λ rest told. passed (IsBoundAnswer h.opened.design.netlist.form h.opened.design.networks (plan_in o h.opened.head))
     (FramesTrace o h.opened.design.netlist h.opened.design.networks h.opened.head rest) status_of_bound h.bounds s h.bounded (next rest told))
 
-at_open : (fs : Files) (words : List (List ℕ)) (bytes : List ℕ) (left' written written' : Option (List ℕ)) (o : Order) (stop : OpenStop) (h : AtOpen (world words (Some fs) (Some bytes) left' written written') o stop)
+at_open : (fs : Files) (words : List (List ℕ)) (bytes : List ℕ) (left' written written' noted noted' : Option (List ℕ)) (o : Order) (stop : OpenStop) (h : AtOpen (world words (Some fs) (Some bytes) left' written written' noted noted') o stop)
     → IsOpenAnswer (terms_for o h.design) bytes left' (Err stop) → RunTrace fs words bytes o (status_of_open stop)
-at_open fs words bytes left' written written' o stop h allowed =
+at_open fs words bytes left' written written' noted noted' o stop h allowed =
     behind_networks fs words o (RunLater bytes o) (status_of_open stop) h.design h.networks
     (stopped (IsOpening (terms_for o h.design) bytes) (BoundsTrace o h.design.netlist h.design.networks) status_of_open stop (left', allowed))
 
-at_bounds : (fs : Files) (words : List (List ℕ)) (bytes : List ℕ) (left' written written' : Option (List ℕ)) (o : Order) (stop : BoundStop) (h : AtBounds (world words (Some fs) (Some bytes) left' written written') o stop)
+at_bounds : (fs : Files) (words : List (List ℕ)) (bytes : List ℕ) (left' written written' noted noted' : Option (List ℕ)) (o : Order) (stop : BoundStop) (h : AtBounds (world words (Some fs) (Some bytes) left' written written' noted noted') o stop)
     → IsBoundAnswer h.opened.design.netlist.form h.opened.design.networks (plan_in o h.opened.head) (Err stop) → RunTrace fs words bytes o (status_of_bound stop)
-at_bounds fs words bytes left' written written' o stop h allowed =
-    behind_opened fs words bytes left' written written' o left' h.opened (status_of_bound stop)
+at_bounds fs words bytes left' written written' noted noted' o stop h allowed =
+    behind_opened fs words bytes left' written written' noted noted' o left' h.opened (status_of_bound stop)
     (λ rest told. stopped (IsBoundAnswer h.opened.design.netlist.form h.opened.design.networks (plan_in o h.opened.head))
     (FramesTrace o h.opened.design.netlist h.opened.design.networks h.opened.head rest) status_of_bound stop allowed)
 
-at_frames : (fs : Files) (words : List (List ℕ)) (bytes : List ℕ) (left' written written' : Option (List ℕ)) (o : Order) (stop : FrameStop) (h : AtFrames (world words (Some fs) (Some bytes) left' written written') o stop)
+at_frames : (fs : Files) (words : List (List ℕ)) (bytes : List ℕ) (left' written written' noted noted' : Option (List ℕ)) (o : Order) (stop : FrameStop) (h : AtFrames (world words (Some fs) (Some bytes) left' written written' noted noted') o stop)
     → ((rest : List ℕ) → h.between ≡ Some rest → IsEndAnswer (setting_for o h.prepared.opened.design h.prepared.opened.head) rest (Err stop))
     → RunTrace fs words bytes o (status_of_frame stop)
-at_frames fs words bytes left' written written' o stop h end =
-    behind_bounds fs words bytes left' written written' o h.between h.prepared (status_of_frame stop)
+at_frames fs words bytes left' written written' noted noted' o stop h end =
+    behind_bounds fs words bytes left' written written' noted noted' o h.between h.prepared (status_of_frame stop)
     (λ rest told. stopped (IsEndAnswer (setting_for o h.prepared.opened.design h.prepared.opened.head) rest) (λ u s. s ≡ Done) status_of_frame stop (end rest told))
 
-at_over : (fs : Files) (words : List (List ℕ)) (bytes : List ℕ) (left' written written' : Option (List ℕ)) (o : Order) (frame channel : ℕ) (sample : ℤ)
-    → AtFrames (world words (Some fs) (Some bytes) left' written written') o (frames_.Amplitude frame channel sample) → RunTrace fs words bytes o (Amplitude frame channel sample)
-at_over fs words bytes left' written written' o frame channel sample h =
+at_over : (fs : Files) (words : List (List ℕ)) (bytes : List ℕ) (left' written written' noted noted' : Option (List ℕ)) (o : Order) (frame channel : ℕ) (sample : ℤ)
+    → AtFrames (world words (Some fs) (Some bytes) left' written written' noted noted') o (frames_.Amplitude frame channel sample) → RunTrace fs words bytes o (Amplitude frame channel sample)
+at_over fs words bytes left' written written' noted noted' o frame channel sample h =
     let s = setting_for o h.prepared.opened.design h.prepared.opened.head in
-    at_frames fs words bytes left' written written' o (frames_.Amplitude frame channel sample) h
+    at_frames fs words bytes left' written written' noted noted' o (frames_.Amplitude frame channel sample) h
     (λ rest told. ends_over s rest left' written written' frame channel sample
     (subst (λ l. StopsOver s frame channel sample l left' written written') told h.stopped))
 
-at_short : (fs : Files) (words : List (List ℕ)) (bytes : List ℕ) (left' written written' : Option (List ℕ)) (o : Order) (count : ℕ)
-    → AtFrames (world words (Some fs) (Some bytes) left' written written') o (frames_.Truncated count) → RunTrace fs words bytes o (Truncated count)
-at_short fs words bytes left' written written' o count h =
+at_short : (fs : Files) (words : List (List ℕ)) (bytes : List ℕ) (left' written written' noted noted' : Option (List ℕ)) (o : Order) (count : ℕ)
+    → AtFrames (world words (Some fs) (Some bytes) left' written written' noted noted') o (frames_.Truncated count) → RunTrace fs words bytes o (Truncated count)
+at_short fs words bytes left' written written' noted noted' o count h =
     let s = setting_for o h.prepared.opened.design h.prepared.opened.head in
-    at_frames fs words bytes left' written written' o (frames_.Truncated count) h
+    at_frames fs words bytes left' written written' noted noted' o (frames_.Truncated count) h
     (λ rest told. ends_short s rest left' written written' count (subst (λ l. StopsShort s count l left' written written') told h.stopped))
 
-pub run_done : (fs : Files) (words : List (List ℕ)) (bytes : List ℕ) (left' written written' : Option (List ℕ)) (o : Order) → DoneRun (world words (Some fs) (Some bytes) left' written written') o → RunTrace fs words bytes o Done
-run_done fs words bytes left' written written' o h =
-    let s = setting_for o h.prepared.opened.design h.prepared.opened.head in
-    behind_bounds fs words bytes left' written written' o h.between h.prepared Done
+pub run_done : (fs : Files) (words : List (List ℕ)) (bytes : List ℕ) (left' written written' noted noted' : Option (List ℕ)) (o : Order) → DoneRun (world words (Some fs) (Some bytes) left' written written' noted noted') o → RunTrace fs words bytes o Done
+run_done fs words bytes left' written written' noted noted' o h =
+    let s = setting_for o h.filtered.prepared.opened.design h.filtered.prepared.opened.head in
+    behind_bounds fs words bytes left' written written' noted noted' o h.filtered.between h.filtered.prepared Done
     (λ rest told. passed (IsEndAnswer s rest) (λ u s. s ≡ Done) status_of_frame tt Done
-    (ends_whole s rest left' written written' (subst (λ l. WritesWave s l left' written written') told h.writes)) refl)
+    (ends_whole s rest left' written written' (subst (λ l. WritesWave s l left' written written') told h.filtered.writes)) refl)
 
 -- all is there for a run
 pub filtered : (fs : Files) (words : List (List ℕ)) (bytes rest : List ℕ) (o : Order) (d : Designed) (head : Head) (b : PlanBounds) → HasNetworks (Some fs) words o d
@@ -165,27 +165,27 @@ filtered fs words bytes rest o d head b networks opened bounded ends =
     (passed (IsBoundAnswer d.netlist.form d.networks (plan_in o head)) (FramesTrace o d.netlist d.networks head rest) status_of_bound b Done bounded
     (passed (IsEndAnswer (setting_for o d head) rest) (λ u s. s ≡ Done) status_of_frame tt Done ends refl)))
 
-pub run_trace : (fs : Files) (words : List (List ℕ)) (bytes : List ℕ) (left' written written' : Option (List ℕ)) (o : Order) (s : Status) → IsTrue (rests_on_told s) → RefusesRun (world words (Some fs) (Some bytes) left' written written') o s → RunTrace fs words bytes o s
-run_trace fs words bytes left' written written' o Done r h = networks_trace fs words (Some bytes) left' written written' o (RunLater bytes o) Done r h
-run_trace fs words bytes left' written written' o (Usage word kind) r h = networks_trace fs words (Some bytes) left' written written' o (RunLater bytes o) (Usage word kind) r h
-run_trace fs words bytes left' written written' o (NetText fault) r h = networks_trace fs words (Some bytes) left' written written' o (RunLater bytes o) (NetText fault) r h
-run_trace fs words bytes left' written written' o (NotSeriesParallel side element core) r h = networks_trace fs words (Some bytes) left' written written' o (RunLater bytes o) (NotSeriesParallel side element core) r h
-run_trace fs words bytes left' written written' o (PortRange side element low) r h = networks_trace fs words (Some bytes) left' written written' o (RunLater bytes o) (PortRange side element low) r h
-run_trace fs words bytes left' written written' o (Bound side element ratio need limit) r h = at_bounds fs words bytes left' written written' o (bounds.Bound side element ratio need limit) h (refl, h.refuses)
-run_trace fs words bytes left' written written' o (BadWave kind at) r h = at_open fs words bytes left' written written' o (opens.BadWave kind at) h (refl, h.refuses)
-run_trace fs words bytes left' written written' o (RateMismatch netlist wave) r h = at_open fs words bytes left' written written' o (opens.RateMismatch netlist wave) h (refl, h.refuses)
-run_trace fs words bytes left' written written' o (TooLong frames limit) r h = at_open fs words bytes left' written written' o (opens.TooLong frames limit) h (refl, h.refuses)
-run_trace fs words bytes left' written written' o (Amplitude frame channel sample) r h = at_over fs words bytes left' written written' o frame channel sample h
-run_trace fs words bytes left' written written' o (Truncated frames) r h = at_short fs words bytes left' written written' o frames h
-run_trace fs words bytes left' written written' o (Unobservable side element kernel) r h = networks_trace fs words (Some bytes) left' written written' o (RunLater bytes o) (Unobservable side element kernel) r h
-run_trace fs words bytes left' written written' o (CertText at range) r h = networks_trace fs words (Some bytes) left' written written' o (RunLater bytes o) (CertText at range) r h
-run_trace fs words bytes left' written written' o (CertWrong side fault) r h = networks_trace fs words (Some bytes) left' written written' o (RunLater bytes o) (CertWrong side fault) r h
-run_trace fs words bytes left' written written' o ReadFault r h = absurd (no r)
-run_trace fs words bytes left' written written' o WriteFault r h = absurd (no r)
-run_trace fs words bytes left' written written' o NoteFault r h = absurd (no r)
-run_trace fs words bytes left' written written' o LoadFault r h = absurd (no r)
-run_trace fs words bytes left' written written' o (Missing word) r h = networks_trace fs words (Some bytes) left' written written' o (RunLater bytes o) (Missing word) r h
-run_trace fs words bytes left' written written' o (FileTooLarge word) r h = networks_trace fs words (Some bytes) left' written written' o (RunLater bytes o) (FileTooLarge word) r h
-run_trace fs words bytes left' written written' o NoMemory r h = absurd (no r)
-run_trace fs words bytes left' written written' o (Unbuilt part) r h = networks_trace fs words (Some bytes) left' written written' o (RunLater bytes o) (Unbuilt part) r h
-run_trace fs words bytes left' written written' o (ChannelCount have want) r h = at_open fs words bytes left' written written' o (opens.ChannelCount have want) h (refl, h.refuses)
+pub run_trace : (fs : Files) (words : List (List ℕ)) (bytes : List ℕ) (left' written written' noted noted' : Option (List ℕ)) (o : Order) (s : Status) → IsTrue (rests_on_told s) → RefusesRun (world words (Some fs) (Some bytes) left' written written' noted noted') o s → RunTrace fs words bytes o s
+run_trace fs words bytes left' written written' noted noted' o Done r h = networks_trace fs words (Some bytes) left' written written' noted noted' o (RunLater bytes o) Done r h
+run_trace fs words bytes left' written written' noted noted' o (Usage word kind) r h = networks_trace fs words (Some bytes) left' written written' noted noted' o (RunLater bytes o) (Usage word kind) r h
+run_trace fs words bytes left' written written' noted noted' o (NetText fault) r h = networks_trace fs words (Some bytes) left' written written' noted noted' o (RunLater bytes o) (NetText fault) r h
+run_trace fs words bytes left' written written' noted noted' o (NotSeriesParallel side element core) r h = networks_trace fs words (Some bytes) left' written written' noted noted' o (RunLater bytes o) (NotSeriesParallel side element core) r h
+run_trace fs words bytes left' written written' noted noted' o (PortRange side element low) r h = networks_trace fs words (Some bytes) left' written written' noted noted' o (RunLater bytes o) (PortRange side element low) r h
+run_trace fs words bytes left' written written' noted noted' o (Bound side element ratio need limit) r h = at_bounds fs words bytes left' written written' noted noted' o (bounds.Bound side element ratio need limit) h (refl, h.refuses)
+run_trace fs words bytes left' written written' noted noted' o (BadWave kind at) r h = at_open fs words bytes left' written written' noted noted' o (opens.BadWave kind at) h (refl, h.refuses)
+run_trace fs words bytes left' written written' noted noted' o (RateMismatch netlist wave) r h = at_open fs words bytes left' written written' noted noted' o (opens.RateMismatch netlist wave) h (refl, h.refuses)
+run_trace fs words bytes left' written written' noted noted' o (TooLong frames limit) r h = at_open fs words bytes left' written written' noted noted' o (opens.TooLong frames limit) h (refl, h.refuses)
+run_trace fs words bytes left' written written' noted noted' o (Amplitude frame channel sample) r h = at_over fs words bytes left' written written' noted noted' o frame channel sample h
+run_trace fs words bytes left' written written' noted noted' o (Truncated frames) r h = at_short fs words bytes left' written written' noted noted' o frames h
+run_trace fs words bytes left' written written' noted noted' o (Unobservable side element kernel) r h = networks_trace fs words (Some bytes) left' written written' noted noted' o (RunLater bytes o) (Unobservable side element kernel) r h
+run_trace fs words bytes left' written written' noted noted' o (CertText at range) r h = networks_trace fs words (Some bytes) left' written written' noted noted' o (RunLater bytes o) (CertText at range) r h
+run_trace fs words bytes left' written written' noted noted' o (CertWrong side fault) r h = networks_trace fs words (Some bytes) left' written written' noted noted' o (RunLater bytes o) (CertWrong side fault) r h
+run_trace fs words bytes left' written written' noted noted' o ReadFault r h = absurd (no r)
+run_trace fs words bytes left' written written' noted noted' o WriteFault r h = absurd (no r)
+run_trace fs words bytes left' written written' noted noted' o NoteFault r h = absurd (no r)
+run_trace fs words bytes left' written written' noted noted' o LoadFault r h = absurd (no r)
+run_trace fs words bytes left' written written' noted noted' o (Missing word) r h = networks_trace fs words (Some bytes) left' written written' noted noted' o (RunLater bytes o) (Missing word) r h
+run_trace fs words bytes left' written written' noted noted' o (FileTooLarge word) r h = networks_trace fs words (Some bytes) left' written written' noted noted' o (RunLater bytes o) (FileTooLarge word) r h
+run_trace fs words bytes left' written written' noted noted' o NoMemory r h = absurd (no r)
+run_trace fs words bytes left' written written' noted noted' o (Unbuilt part) r h = networks_trace fs words (Some bytes) left' written written' noted noted' o (RunLater bytes o) (Unbuilt part) r h
+run_trace fs words bytes left' written written' noted noted' o (ChannelCount have want) r h = at_open fs words bytes left' written written' noted noted' o (opens.ChannelCount have want) h (refl, h.refuses)

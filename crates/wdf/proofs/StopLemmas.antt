@@ -16,14 +16,16 @@ use Rattle.wdf.specs.declared.checking_stop.CheckingStop.{CheckingStop}
 use Rattle.wdf.specs.declared.checking_stop.CheckingStop.TheVariants as checking
 use Rattle.wdf.specs.declared.reporting_stop.ReportingStop.{ReportingStop}
 use Rattle.wdf.specs.declared.reporting_stop.ReportingStop.TheVariants as reporting
+use Rattle.wdf.specs.declared.beginning_stop.BeginningStop.{BeginningStop}
+use Rattle.wdf.specs.declared.beginning_stop.BeginningStop.TheVariants as beginning
 use Rattle.wdf.specs.declared.filtering_stop.FilteringStop.{FilteringStop}
 use Rattle.wdf.specs.declared.filtering_stop.FilteringStop.TheVariants as filtering
 use Rattle.wdf.specs.World.{World}
-use Rattle.wdf.specs.Statuses.{status_of_certifying, status_of_checking, status_of_reporting, status_of_filtering}
+use Rattle.wdf.specs.Statuses.{status_of_certifying, status_of_checking, status_of_reporting, status_of_beginning, status_of_filtering}
 use Rattle.wdf.specs.CertifyAnswer.{CertifyStops, RefusesCertify}
 use Rattle.wdf.specs.CheckAnswer.{CheckStops, RefusesCheck}
 use Rattle.wdf.specs.ReportAnswer.{ReportStops, RefusesReport}
-use Rattle.wdf.specs.RunAnswer.{RunStops, RefusesRun}
+use Rattle.wdf.specs.RunAnswer.{BeginningStops, RunStops, RefusesRun}
 
 -- ---- `certify`
 
@@ -78,24 +80,28 @@ report_row w o reporting.Write h = h
 
 -- ---- `run`
 
+begin_row : (w : World) (o : Order) (stop : BeginningStop) → BeginningStops w o stop → RefusesRun w o (status_of_beginning stop)
+begin_row w o (beginning.Networks (Netlist (netlists.Missing word))) h = h
+begin_row w o (beginning.Networks (Netlist (netlists.FileTooLarge word))) h = h
+begin_row w o (beginning.Networks (Netlist (netlists.NetText fault))) h = h
+begin_row w o (beginning.Networks (Netlist netlists.LoadFault)) h = h
+begin_row w o (beginning.Networks (Netlist netlists.NoMemory)) h = inl (inl h)
+begin_row w o (beginning.Networks (Design (designs.NotSeriesParallel side element core))) h = h
+begin_row w o (beginning.Networks (Design (designs.PortRange side element low))) h = h
+begin_row w o (beginning.Networks (Design designs.NoMemory)) h = inl (inr h)
+begin_row w o (beginning.Open (opens.BadWave kind at)) h = h
+begin_row w o (beginning.Open (opens.RateMismatch netlist wave)) h = h
+begin_row w o (beginning.Open (opens.ChannelCount have want)) h = h
+begin_row w o (beginning.Open (opens.TooLong frames limit)) h = h
+begin_row w o (beginning.Open opens.ReadFault) h = inl h
+begin_row w o (beginning.Bound (bounds.Bound side element ratio need limit)) h = h
+begin_row w o (beginning.Bound bounds.NoMemory) h = inr (inl h)
+begin_row w o beginning.NoMemory h = inr (inr h)
+
 pub run_row : (w : World) (o : Order) (stop : FilteringStop) → RunStops w o stop → RefusesRun w o (status_of_filtering stop)
-run_row w o (filtering.Networks (Netlist (netlists.Missing word))) h = h
-run_row w o (filtering.Networks (Netlist (netlists.FileTooLarge word))) h = h
-run_row w o (filtering.Networks (Netlist (netlists.NetText fault))) h = h
-run_row w o (filtering.Networks (Netlist netlists.LoadFault)) h = h
-run_row w o (filtering.Networks (Netlist netlists.NoMemory)) h = inl (inl h)
-run_row w o (filtering.Networks (Design (designs.NotSeriesParallel side element core))) h = h
-run_row w o (filtering.Networks (Design (designs.PortRange side element low))) h = h
-run_row w o (filtering.Networks (Design designs.NoMemory)) h = inl (inr h)
-run_row w o (filtering.Open (opens.BadWave kind at)) h = h
-run_row w o (filtering.Open (opens.RateMismatch netlist wave)) h = h
-run_row w o (filtering.Open (opens.ChannelCount have want)) h = h
-run_row w o (filtering.Open (opens.TooLong frames limit)) h = h
-run_row w o (filtering.Open opens.ReadFault) h = inl h
-run_row w o (filtering.Bound (bounds.Bound side element ratio need limit)) h = h
-run_row w o (filtering.Bound bounds.NoMemory) h = inr (inl h)
-run_row w o filtering.NoMemory h = inr (inr h)
+run_row w o (filtering.Begin stop) h = begin_row w o stop h
 run_row w o (filtering.Frame (frames_.Amplitude frame channel sample)) h = h
 run_row w o (filtering.Frame (frames_.Truncated frames)) h = h
 run_row w o (filtering.Frame frames_.ReadFault) h = inr h
 run_row w o (filtering.Frame frames_.WriteFault) h = h
+run_row w o filtering.Note h = h

@@ -1,11 +1,13 @@
--- The table of answers: what each answer of a call says of the words, the files and the input, and what was read and
--- written. It is told command by command; another command has lines of its own.
-use Rattle.std.specs.Prelude.{◌≡◌, Result, Ok, Err}
+-- The table of answers: what each answer of a call says of the words, the files and the input, and what was read, written
+-- and noted. It is told command by command; another command has lines of its own.
+use Rattle.std.specs.Prelude.{◌≡◌, ℕ, ◌≤◌, List, Option, Result, Ok, Err}
 use Rattle.wdf_words.specs.declared.command.Command.{Command}
 use Rattle.wdf_words.specs.declared.command.Command.TheVariants.{Run, Report, Certify, Check, Soak}
 use Rattle.wdf_words.specs.declared.order.Order.{Order}
 use Rattle.wdf_words.specs.declared.usage_fault.UsageFault.{UsageFault}
 use Rattle.wdf_words.specs.Orders.{order_of}
+use Rattle.wdf_stages.specs.Noting.{GainsLine}
+use Rattle.wdf_report.specs.FaultLine.{fault_line_of}
 use Rattle.wdf_report.specs.declared.status.Status.{Status}
 use Rattle.wdf_report.specs.declared.status.Status.TheVariants.{Unbuilt}
 use Rattle.wdf.specs.World.{World, IsQuiet}
@@ -15,7 +17,7 @@ use Rattle.wdf.specs.CheckAnswer.{DoneCheck, RefusesCheck}
 use Rattle.wdf.specs.ReportAnswer.{DoneReport, RefusesReport}
 use Rattle.wdf.specs.RunAnswer.{DoneRun, RefusesRun}
 
--- this is the answer, and nothing was read or written
+-- this is the answer, and nothing was read, written or noted
 pub record Answers (w : World) (s answer : Status) : Type 0 where
   pub is : s ≡ answer
   pub quiet : IsQuiet w
@@ -53,3 +55,12 @@ IsDone w = DoesWords (order_of w.words) w
 -- it did not, for the cause that the answer tells
 abbrev pub Refuses : World → Status → Type 0
 Refuses w s = RefusesWords (order_of w.words) w s
+
+-- and behind what was noted until then, the fault line of that answer was tried. `noted'` is what the note held before it,
+-- and `count` how often its calls had failed; `noted''` and `now` are those behind it.
+pub record IsRefused (w : (noted' : Option (List ℕ)) → World) (noted'' : Option (List ℕ)) (before now : ℕ) (s : Status) : Type 0 where
+  pub noted' : Option (List ℕ)
+  pub count : ℕ
+  pub refuses : Refuses (w noted') s
+  pub later : before ≤ count
+  pub line : GainsLine noted' noted'' count now (fault_line_of s)

@@ -23,12 +23,12 @@ pub record IsAnswer (w : World) (s : Status) : Type 0 where
 
 -- Two such answers to the same words, told files and told input are equal, whatever the calls read and wrote.
 abbrev pub HasOneAnswer : Type 0
-HasOneAnswer = (words : List (List ℕ)) (files : Files) (bytes : List ℕ) (left left' gained gained' written written' : Option (List ℕ)) (s t : Status)
+HasOneAnswer = (words : List (List ℕ)) (files : Files) (bytes : List ℕ) (left left' gained gained' written written' told told' noted noted' : Option (List ℕ)) (s t : Status)
     → IsTrue (rests_on_told s) → IsTrue (rests_on_told t)
-    → IsAnswer (world words (Some files) (Some bytes) left gained gained') s
-    → IsAnswer (world words (Some files) (Some bytes) left' written written') t
+    → IsAnswer (world words (Some files) (Some bytes) left gained gained' told told') s
+    → IsAnswer (world words (Some files) (Some bytes) left' written written' noted noted') t
     → s ≡ t
 
 -- Where all is there that the words ask for, the answer is `Done`, a fault or want of memory.
 abbrev pub IsComplete : Type 0
-IsComplete = (w : World) (s : Status) → HasAll w → Refuses w s → s ≢ Done → s ≢ LoadFault → s ≢ ReadFault → s ≢ WriteFault → s ≡ NoMemory
+IsComplete = (w : World) (s : Status) → HasAll w.words w.files w.left → Refuses w s → s ≢ Done → s ≢ LoadFault → s ≢ ReadFault → s ≢ WriteFault → s ≢ NoteFault → s ≡ NoMemory

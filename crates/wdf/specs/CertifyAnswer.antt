@@ -1,5 +1,5 @@
--- The answers of the command `certify`, which writes the certificates of the netlist's networks. It does not read the
--- input.
+-- The answers of the command `certify`, which writes the certificates of the netlist's networks. It neither reads the
+-- input nor writes the note.
 use Rattle.std.specs.Prelude.{ℕ, ◌⊎◌, List}
 use Rattle.std.specs.Io.KnownBytes.{Appends}
 use Rattle.wdf_io.specs.Moved.{AppendsPart}
@@ -12,7 +12,7 @@ use Rattle.wdf_report.specs.declared.status.Status.TheVariants.{Unobservable, Wr
 use Rattle.wdf.specs.declared.designed.Designed.{Designed}
 use Rattle.wdf.specs.declared.certifying_stop.CertifyingStop.{CertifyingStop}
 use Rattle.wdf.specs.declared.certifying_stop.CertifyingStop.TheVariants.{Networks, Certify, Write}
-use Rattle.wdf.specs.World.{World, KeepsInput, IsQuiet}
+use Rattle.wdf.specs.World.{World, KeepsInput, KeepsNote, IsQuiet}
 use Rattle.wdf.specs.NetworksAnswer.{HasNetworks, AtNetworks, RefusesNetworks}
 
 -- the networks have certificates, and this is their text
@@ -27,6 +27,7 @@ pub record DoneCertify (w : World) (o : Order) : Type 0 where
   pub has : HasText w o text
   pub input : KeepsInput w
   pub output : Appends w.written w.written' text
+  pub note : KeepsNote w
 
 -- a network has no certificate
 pub record AtCertify (w : World) (o : Order) (stop : CertifyStop) : Type 0 where
@@ -41,6 +42,7 @@ pub record AtCertifyWrite (w : World) (o : Order) : Type 0 where
   pub has : HasText w o text
   pub input : KeepsInput w
   pub output : AppendsPart w.written w.written' text
+  pub note : KeepsNote w
 
 -- where the command stopped
 abbrev pub CertifyStops : World → Order → CertifyingStop → Type 0

@@ -1,5 +1,5 @@
 -- The answers of the command `check`, which writes `accepted` where a file's certificates certify the netlist's
--- networks. It does not read the input.
+-- networks. It neither reads the input nor writes the note.
 use Rattle.std.specs.Prelude.{ℕ, ◌⊎◌, List, [], ◌∷◌, ◌++◌, codes}
 use Rattle.std.specs.Io.KnownBytes.{Appends}
 use Rattle.wdf_io.specs.Moved.{AppendsPart}
@@ -16,7 +16,7 @@ use Rattle.wdf_report.specs.declared.status.Status.TheVariants.{CertText, CertWr
 use Rattle.wdf.specs.declared.designed.Designed.{Designed}
 use Rattle.wdf.specs.declared.checking_stop.CheckingStop.{CheckingStop}
 use Rattle.wdf.specs.declared.checking_stop.CheckingStop.TheVariants.{Networks, Load, Check, Write}
-use Rattle.wdf.specs.World.{World, KeepsInput, IsQuiet}
+use Rattle.wdf.specs.World.{World, KeepsInput, KeepsNote, IsQuiet}
 use Rattle.wdf.specs.NetworksAnswer.{HasNetworks, AtNetworks, RefusesNetworks, word_of, name_of}
 
 -- what is written where the certificates are accepted
@@ -40,6 +40,7 @@ pub record DoneCheck (w : World) (o : Order) : Type 0 where
   pub accepted : IsAccepted w o
   pub input : KeepsInput w
   pub output : Appends w.written w.written' accepted_text
+  pub note : KeepsNote w
 
 -- there are no certificates
 pub record AtCertLoad (w : World) (o : Order) (stop : LoadStop) : Type 0 where
@@ -59,6 +60,7 @@ pub record AtCheckWrite (w : World) (o : Order) : Type 0 where
   pub accepted : IsAccepted w o
   pub input : KeepsInput w
   pub output : AppendsPart w.written w.written' accepted_text
+  pub note : KeepsNote w
 
 -- where the command stopped
 abbrev pub CheckStops : World → Order → CheckingStop → Type 0

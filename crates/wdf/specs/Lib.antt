@@ -4,9 +4,11 @@ pub mod CertifyAnswer
 pub mod CheckAnswer
 pub mod Complete
 pub mod Filtered
+pub mod Kirchhoff
 pub mod NetworksAnswer
 pub mod ReportAnswer
 pub mod RunAnswer
+pub mod RunNote
 pub mod Runs
 pub mod Statuses
 pub mod World

@@ -1,5 +1,5 @@
 -- The answers of the command `report`, which writes what the netlist becomes under the plan that the words say. Its
--- stages are the networks, the bounds of words, the text and its write; it does not read the input.
+-- stages are the networks, the bounds of words, the text and its write; it neither reads the input nor writes the note.
 use Rattle.std.specs.Prelude.{ℕ, ◌⊎◌, List}
 use Rattle.std.specs.Io.KnownBytes.{Appends}
 use Rattle.wdf_io.specs.Moved.{AppendsPart}
@@ -16,7 +16,7 @@ use Rattle.wdf_report.specs.declared.status.Status.TheVariants.{Bound, WriteFaul
 use Rattle.wdf.specs.declared.designed.Designed.{Designed}
 use Rattle.wdf.specs.declared.reporting_stop.ReportingStop.{ReportingStop}
 use Rattle.wdf.specs.declared.reporting_stop.ReportingStop.TheVariants as stops
-use Rattle.wdf.specs.World.{World, KeepsInput, IsQuiet}
+use Rattle.wdf.specs.World.{World, KeepsInput, KeepsNote, IsQuiet}
 use Rattle.wdf.specs.NetworksAnswer.{HasNetworks, AtNetworks, RefusesNetworks}
 
 -- the plan is for samples of the width that the words say
@@ -41,6 +41,7 @@ pub record DoneReport (w : World) (o : Order) : Type 0 where
   pub has : HasReport w o text
   pub input : KeepsInput w
   pub output : Appends w.written w.written' text
+  pub note : KeepsNote w
 
 -- the plan does not fit the networks
 pub record AtReportBounds (w : World) (o : Order) (stop : BoundStop) : Type 0 where
@@ -60,6 +61,7 @@ pub record AtReportWrite (w : World) (o : Order) : Type 0 where
   pub has : HasReport w o text
   pub input : KeepsInput w
   pub output : AppendsPart w.written w.written' text
+  pub note : KeepsNote w
 
 -- where the command stopped
 abbrev pub ReportStops : World → Order → ReportingStop → Type 0

@@ -1,6 +1,6 @@
 -- The answers that the stages' stops become, each with the data of its stop.
 use Rattle.wdf_report.specs.declared.status.Status.{Status}
-use Rattle.wdf_report.specs.declared.status.Status.TheVariants.{Usage, NetText, NotSeriesParallel, PortRange, Bound, BadWave, RateMismatch, ChannelCount, TooLong, Amplitude, Truncated, Unobservable, CertText, CertWrong, ReadFault, WriteFault, LoadFault, Missing, FileTooLarge, NoMemory}
+use Rattle.wdf_report.specs.declared.status.Status.TheVariants.{Usage, NetText, NotSeriesParallel, PortRange, Bound, BadWave, RateMismatch, ChannelCount, TooLong, Amplitude, Truncated, Unobservable, CertText, CertWrong, ReadFault, WriteFault, NoteFault, LoadFault, Missing, FileTooLarge, NoMemory}
 use Rattle.wdf_words.specs.declared.usage_fault.UsageFault.{UsageFault}
 use Rattle.wdf_stages.specs.declared.netlist_stop.NetlistStop.{NetlistStop}
 use Rattle.wdf_stages.specs.declared.netlist_stop.NetlistStop.TheVariants as netlists
@@ -26,6 +26,8 @@ use Rattle.wdf.specs.declared.checking_stop.CheckingStop.{CheckingStop}
 use Rattle.wdf.specs.declared.checking_stop.CheckingStop.TheVariants as checking
 use Rattle.wdf.specs.declared.reporting_stop.ReportingStop.{ReportingStop}
 use Rattle.wdf.specs.declared.reporting_stop.ReportingStop.TheVariants as reporting
+use Rattle.wdf.specs.declared.beginning_stop.BeginningStop.{BeginningStop}
+use Rattle.wdf.specs.declared.beginning_stop.BeginningStop.TheVariants as beginning
 use Rattle.wdf.specs.declared.filtering_stop.FilteringStop.{FilteringStop}
 use Rattle.wdf.specs.declared.filtering_stop.FilteringStop.TheVariants as filtering
 
@@ -103,9 +105,13 @@ status_of_frame (frames_.Truncated frames) = Truncated frames
 status_of_frame frames_.ReadFault = ReadFault
 status_of_frame frames_.WriteFault = WriteFault
 
+abbrev pub status_of_beginning : BeginningStop → Status
+status_of_beginning (beginning.Networks stop) = status_of_networks stop
+status_of_beginning (beginning.Open stop) = status_of_open stop
+status_of_beginning (beginning.Bound stop) = status_of_bound stop
+status_of_beginning beginning.NoMemory = NoMemory
+
 abbrev pub status_of_filtering : FilteringStop → Status
-status_of_filtering (filtering.Networks stop) = status_of_networks stop
-status_of_filtering (filtering.Open stop) = status_of_open stop
-status_of_filtering (filtering.Bound stop) = status_of_bound stop
-status_of_filtering filtering.NoMemory = NoMemory
+status_of_filtering (filtering.Begin stop) = status_of_beginning stop
 status_of_filtering (filtering.Frame stop) = status_of_frame stop
+status_of_filtering filtering.Note = NoteFault

@@ -29,11 +29,11 @@ pub fn certify_words<H: Shelf, O: Sink>(
 ) -> Result<(), CertifyingStop>
     requires ranges { HasRanges order.now }
     requires named { IsFileNamed (texts words.now) order.now.net }
-    // Whatever the input is: it is not read.
-    ensures done { (left : Option (List ℕ)) → OnOk result
-        (DoneCertify (world (texts words.now) (H.files shelf.old) left left (O.written out.old) (O.written out.new)) order.now) }
-    ensures refused { (left : Option (List ℕ)) → IfErr result
-        (CertifyStops (world (texts words.now) (H.files shelf.old) left left (O.written out.old) (O.written out.new)) order.now) }
+    // Whatever the input and the note are: the one is not read, the other not written.
+    ensures done { (left noted : Option (List ℕ)) → OnOk result
+        (DoneCertify (world (texts words.now) (H.files shelf.old) left left (O.written out.old) (O.written out.new) noted noted) order.now) }
+    ensures refused { (left noted : Option (List ℕ)) → IfErr result
+        (CertifyStops (world (texts words.now) (H.files shelf.old) left left (O.written out.old) (O.written out.new) noted noted) order.now) }
     ensures load_fault { IsErrOf result (CertifyingStop.Networks (NetworksStop.Netlist netlists.LoadFault)) → Rose (H.faults shelf.old) (H.faults shelf.new) }
     ensures write_fault { IsErrOf result CertifyingStop.Write → Rose (O.faults out.old) (O.faults out.new) }
 {

@@ -53,11 +53,11 @@ pub fn check_words<H: Shelf, O: Sink>(
     requires ranges { HasRanges order.now }
     requires named { IsFileNamed (texts words.now) order.now.net }
     requires cert_named { IsFileNamed (texts words.now) order.now.cert }
-    // Whatever the input is: it is not read.
-    ensures done { (left : Option (List ℕ)) → OnOk result
-        (DoneCheck (world (texts words.now) (H.files shelf.old) left left (O.written out.old) (O.written out.new)) order.now) }
-    ensures refused { (left : Option (List ℕ)) → IfErr result
-        (CheckStops (world (texts words.now) (H.files shelf.old) left left (O.written out.old) (O.written out.new)) order.now) }
+    // Whatever the input and the note are: the one is not read, the other not written.
+    ensures done { (left noted : Option (List ℕ)) → OnOk result
+        (DoneCheck (world (texts words.now) (H.files shelf.old) left left (O.written out.old) (O.written out.new) noted noted) order.now) }
+    ensures refused { (left noted : Option (List ℕ)) → IfErr result
+        (CheckStops (world (texts words.now) (H.files shelf.old) left left (O.written out.old) (O.written out.new) noted noted) order.now) }
     ensures load_fault { IsErrOf result (CheckingStop.Networks (NetworksStop.Netlist netlists.LoadFault)) → Rose (H.faults shelf.old) (H.faults shelf.new) }
     ensures cert_fault { IsErrOf result (CheckingStop.Load loads.LoadFault) → Rose (H.faults shelf.old) (H.faults shelf.new) }
     ensures write_fault { IsErrOf result CheckingStop.Write → Rose (O.faults out.old) (O.faults out.new) }

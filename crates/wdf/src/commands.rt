@@ -1,6 +1,6 @@
 //! The answers of the commands.
 
-ghost use Rattle.std.specs.Prelude.{◌≡◌, ◌≤◌, List, ℕ, OnOk, IfErr, IsErrOf};
+ghost use Rattle.std.specs.Prelude.{◌≡◌, ◌≢◌, ◌≤◌, List, ℕ, OnOk, IfErr, IsErrOf};
 ghost use Rattle.std.specs.declared.option.Option.{Option};
 ghost use Rattle.wdf_io.specs.Causes.{Rose};
 ghost use Rattle.wdf_words.specs.Orders.{HasRanges, IsFileNamed, texts};
@@ -20,25 +20,29 @@ use wdf_report::Status;
 use wdf_words::Order;
 
 /// Does the command `run`.
-pub fn do_run<H: Shelf, I: Source, O: Sink>(
+pub fn do_run<H: Shelf, I: Source, O: Sink, N: Sink>(
     alloc: Global,
     words: &[String],
     order: &Order,
     shelf: &mut H,
     input: &mut I,
     out: &mut O,
+    note: &mut N,
 ) -> Result<(), Status>
     requires ranges { HasRanges order.now }
     requires named { IsFileNamed (texts words.now) order.now.net }
     ensures done { OnOk result
-        (DoneRun (world (texts words.now) (H.files shelf.old) (I.left input.old) (I.left input.new) (O.written out.old) (O.written out.new)) order.now) }
+        (DoneRun (world (texts words.now) (H.files shelf.old) (I.left input.old) (I.left input.new) (O.written out.old) (O.written out.new) (N.written note.old) (N.written note.new)) order.now) }
     ensures refused { IfErr result
-        (RefusesRun (world (texts words.now) (H.files shelf.old) (I.left input.old) (I.left input.new) (O.written out.old) (O.written out.new)) order.now) }
+        (RefusesRun (world (texts words.now) (H.files shelf.old) (I.left input.old) (I.left input.new) (O.written out.old) (O.written out.new) (N.written note.old) (N.written note.new)) order.now) }
+    ensures quiet { IfErr result (λ status. status ≢ Status.NoteFault → note.new ≡ note.old) }
+    ensures later { N.faults note.old ≤ N.faults note.new }
     ensures load_fault { IsErrOf result Status.LoadFault → Rose (H.faults shelf.old) (H.faults shelf.new) }
     ensures read_fault { IsErrOf result Status.ReadFault → Rose (I.faults input.old) (I.faults input.new) }
     ensures write_fault { IsErrOf result Status.WriteFault → Rose (O.faults out.old) (O.faults out.new) }
+    ensures note_fault { IsErrOf result Status.NoteFault → Rose (N.faults note.old) (N.faults note.new) }
 {
-    match filter_words(alloc, words, order, shelf, input, out) {
+    match filter_words(alloc, words, order, shelf, input, out, note) {
         Ok(()) => Ok(()),
         Err(stop) => Err(Status::from(stop)),
     }
@@ -54,10 +58,10 @@ pub fn do_report<H: Shelf, O: Sink>(
 ) -> Result<(), Status>
     requires ranges { HasRanges order.now }
     requires named { IsFileNamed (texts words.now) order.now.net }
-    ensures done { (left : Option (List ℕ)) → OnOk result
-        (DoneReport (world (texts words.now) (H.files shelf.old) left left (O.written out.old) (O.written out.new)) order.now) }
-    ensures refused { (left : Option (List ℕ)) → IfErr result
-        (RefusesReport (world (texts words.now) (H.files shelf.old) left left (O.written out.old) (O.written out.new)) order.now) }
+    ensures done { (left noted : Option (List ℕ)) → OnOk result
+        (DoneReport (world (texts words.now) (H.files shelf.old) left left (O.written out.old) (O.written out.new) noted noted) order.now) }
+    ensures refused { (left noted : Option (List ℕ)) → IfErr result
+        (RefusesReport (world (texts words.now) (H.files shelf.old) left left (O.written out.old) (O.written out.new) noted noted) order.now) }
     ensures load_fault { IsErrOf result Status.LoadFault → Rose (H.faults shelf.old) (H.faults shelf.new) }
     ensures write_fault { IsErrOf result Status.WriteFault → Rose (O.faults out.old) (O.faults out.new) }
 {
@@ -77,10 +81,10 @@ pub fn do_certify<H: Shelf, O: Sink>(
 ) -> Result<(), Status>
     requires ranges { HasRanges order.now }
     requires named { IsFileNamed (texts words.now) order.now.net }
-    ensures done { (left : Option (List ℕ)) → OnOk result
-        (DoneCertify (world (texts words.now) (H.files shelf.old) left left (O.written out.old) (O.written out.new)) order.now) }
-    ensures refused { (left : Option (List ℕ)) → IfErr result
-        (RefusesCertify (world (texts words.now) (H.files shelf.old) left left (O.written out.old) (O.written out.new)) order.now) }
+    ensures done { (left noted : Option (List ℕ)) → OnOk result
+        (DoneCertify (world (texts words.now) (H.files shelf.old) left left (O.written out.old) (O.written out.new) noted noted) order.now) }
+    ensures refused { (left noted : Option (List ℕ)) → IfErr result
+        (RefusesCertify (world (texts words.now) (H.files shelf.old) left left (O.written out.old) (O.written out.new) noted noted) order.now) }
     ensures load_fault { IsErrOf result Status.LoadFault → Rose (H.faults shelf.old) (H.faults shelf.new) }
     ensures write_fault { IsErrOf result Status.WriteFault → Rose (O.faults out.old) (O.faults out.new) }
 {
@@ -101,10 +105,10 @@ pub fn do_check<H: Shelf, O: Sink>(
     requires ranges { HasRanges order.now }
     requires named { IsFileNamed (texts words.now) order.now.net }
     requires cert_named { IsFileNamed (texts words.now) order.now.cert }
-    ensures done { (left : Option (List ℕ)) → OnOk result
-        (DoneCheck (world (texts words.now) (H.files shelf.old) left left (O.written out.old) (O.written out.new)) order.now) }
-    ensures refused { (left : Option (List ℕ)) → IfErr result
-        (RefusesCheck (world (texts words.now) (H.files shelf.old) left left (O.written out.old) (O.written out.new)) order.now) }
+    ensures done { (left noted : Option (List ℕ)) → OnOk result
+        (DoneCheck (world (texts words.now) (H.files shelf.old) left left (O.written out.old) (O.written out.new) noted noted) order.now) }
+    ensures refused { (left noted : Option (List ℕ)) → IfErr result
+        (RefusesCheck (world (texts words.now) (H.files shelf.old) left left (O.written out.old) (O.written out.new) noted noted) order.now) }
     ensures load_fault { IsErrOf result Status.LoadFault → Rose (H.faults shelf.old) (H.faults shelf.new) }
     ensures write_fault { IsErrOf result Status.WriteFault → Rose (O.faults out.old) (O.faults out.new) }
 {

@@ -1,57 +1,28 @@
-//! Why a wave was not filtered, or not to its end.
+//! Why a wave was not filtered, or not to its end, or was not told of.
 
 ghost use Rattle.std.specs.Prelude.{◌≡◌};
-ghost use Rattle.wdf.specs.declared.filtering_stop.FilteringStop.TheVariants.{Bound, Frame, Networks, NoMemory, Open};
+ghost use Rattle.wdf.specs.declared.filtering_stop.FilteringStop.TheVariants.{Begin, Frame, Note};
 
-use crate::NetworksStop;
-use std::alloc::AllocError;
+use crate::BeginningStop;
 use wdf_frames::FrameStop;
-use wdf_stages::{BoundStop, OpenStop};
+use wdf_io::Failed;
 
-/// Why a wave was not filtered, or not to its end.
+/// Why a wave was not filtered, or not to its end, or was not told of.
 #[derive(Drop)]
 pub enum FilteringStop {
-    /// There are no networks.
-    Networks(NetworksStop),
-    /// The input is no wave for them.
-    Open(OpenStop),
-    /// The plan does not fit them.
-    Bound(BoundStop),
-    /// There was no memory for the run.
-    NoMemory,
-    /// The run stopped at a frame.
+    /// The run did not begin.
+    Begin(BeginningStop),
+    /// It stopped at a frame.
     Frame(FrameStop),
+    /// The write of the note failed.
+    Note,
 }
 
-impl From<NetworksStop> for FilteringStop {
-    ghost from_gives = { λ stop s. s ≡ Networks stop };
+impl From<BeginningStop> for FilteringStop {
+    ghost from_gives = { λ stop s. s ≡ Begin stop };
 
-    fn from(stop: NetworksStop) -> Self {
-        FilteringStop::Networks(stop)
-    }
-}
-
-impl From<OpenStop> for FilteringStop {
-    ghost from_gives = { λ stop s. s ≡ Open stop };
-
-    fn from(stop: OpenStop) -> Self {
-        FilteringStop::Open(stop)
-    }
-}
-
-impl From<BoundStop> for FilteringStop {
-    ghost from_gives = { λ stop s. s ≡ Bound stop };
-
-    fn from(stop: BoundStop) -> Self {
-        FilteringStop::Bound(stop)
-    }
-}
-
-impl From<AllocError> for FilteringStop {
-    ghost from_gives = { λ _ s. s ≡ NoMemory };
-
-    fn from(_: AllocError) -> Self {
-        FilteringStop::NoMemory
+    fn from(stop: BeginningStop) -> Self {
+        FilteringStop::Begin(stop)
     }
 }
 
@@ -60,5 +31,13 @@ impl From<FrameStop> for FilteringStop {
 
     fn from(stop: FrameStop) -> Self {
         FilteringStop::Frame(stop)
+    }
+}
+
+impl From<Failed> for FilteringStop {
+    ghost from_gives = { λ _ s. s ≡ Note };
+
+    fn from(_: Failed) -> Self {
+        FilteringStop::Note
     }
 }

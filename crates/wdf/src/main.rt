@@ -4,6 +4,9 @@
 //! they hold then. `main` calls it with the real ones.
 #![tactic(auto)]
 
+mod beginning;
+mod beginning_stop;
+mod begun;
 mod certifying;
 mod certifying_stop;
 mod checking;
@@ -16,6 +19,7 @@ mod filtering_stop;
 mod keeping;
 mod laws;
 mod networks_stop;
+mod noting;
 mod reporting;
 mod reporting_stop;
 mod run;
@@ -23,6 +27,8 @@ mod statuses;
 #[cfg(test)]
 mod tests;
 
+use beginning_stop::BeginningStop;
+use begun::Begun;
 use certifying_stop::CertifyingStop;
 use checking_stop::CheckingStop;
 use designed::Designed;

@@ -31,11 +31,11 @@ pub fn report_words<H: Shelf, O: Sink>(
 ) -> Result<(), ReportingStop>
     requires ranges { HasRanges order.now }
     requires named { IsFileNamed (texts words.now) order.now.net }
-    // Whatever the input is: it is not read.
-    ensures done { (left : Option (List ℕ)) → OnOk result
-        (DoneReport (world (texts words.now) (H.files shelf.old) left left (O.written out.old) (O.written out.new)) order.now) }
-    ensures refused { (left : Option (List ℕ)) → IfErr result
-        (ReportStops (world (texts words.now) (H.files shelf.old) left left (O.written out.old) (O.written out.new)) order.now) }
+    // Whatever the input and the note are: the one is not read, the other not written.
+    ensures done { (left noted : Option (List ℕ)) → OnOk result
+        (DoneReport (world (texts words.now) (H.files shelf.old) left left (O.written out.old) (O.written out.new) noted noted) order.now) }
+    ensures refused { (left noted : Option (List ℕ)) → IfErr result
+        (ReportStops (world (texts words.now) (H.files shelf.old) left left (O.written out.old) (O.written out.new) noted noted) order.now) }
     ensures load_fault { IsErrOf result (ReportingStop.Networks (NetworksStop.Netlist netlists.LoadFault)) → Rose (H.faults shelf.old) (H.faults shelf.new) }
     ensures write_fault { IsErrOf result ReportingStop.Write → Rose (O.faults out.old) (O.faults out.new) }
 {

@@ -1,9 +1,11 @@
 //! The answers that the stops of commands become.
 
 ghost use Rattle.std.specs.Prelude.{◌≡◌};
-ghost use Rattle.wdf.specs.Statuses.{status_of_bound, status_of_certify, status_of_certifying, status_of_check, status_of_checking, status_of_design, status_of_filtering, status_of_frame, status_of_load, status_of_netlist, status_of_networks, status_of_open, status_of_reporting, status_of_usage};
+ghost use Rattle.wdf.specs.Statuses.{status_of_beginning, status_of_bound, status_of_certify, status_of_certifying, status_of_check, status_of_checking, status_of_design, status_of_filtering, status_of_frame, status_of_load, status_of_netlist, status_of_networks, status_of_open, status_of_reporting, status_of_usage};
 
-use crate::{CertifyingStop, CheckingStop, FilteringStop, NetworksStop, ReportingStop};
+use crate::{
+    BeginningStop, CertifyingStop, CheckingStop, FilteringStop, NetworksStop, ReportingStop,
+};
 use wdf_certificates::{CertifyStop, CheckStop, LoadStop};
 use wdf_frames::FrameStop;
 use wdf_report::Status;
@@ -187,16 +189,25 @@ fn frame_status(stop: FrameStop) -> Status
     }
 }
 
+fn beginning_status(stop: BeginningStop) -> Status
+    ensures { result ≡ status_of_beginning stop }
+{
+    match stop {
+        BeginningStop::Networks(stop) => networks_status(stop),
+        BeginningStop::Open(stop) => open_status(stop),
+        BeginningStop::Bound(stop) => bound_status(stop),
+        BeginningStop::NoMemory => Status::NoMemory,
+    }
+}
+
 impl From<FilteringStop> for Status {
     ghost from_gives = { λ stop s. s ≡ status_of_filtering stop };
 
     fn from(stop: FilteringStop) -> Self {
         match stop {
-            FilteringStop::Networks(stop) => networks_status(stop),
-            FilteringStop::Open(stop) => open_status(stop),
-            FilteringStop::Bound(stop) => bound_status(stop),
-            FilteringStop::NoMemory => Status::NoMemory,
+            FilteringStop::Begin(stop) => beginning_status(stop),
             FilteringStop::Frame(stop) => frame_status(stop),
+            FilteringStop::Note => Status::NoteFault,
         }
     }
 }

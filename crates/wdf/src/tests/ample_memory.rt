@@ -13,7 +13,7 @@ static CALLS: [Case<'static>; 4] = [
         input: &FOUR,
         code: 0,
         out: &FOUR,
-        line: "",
+        line: "frames 4\nclipped 0\nchannel 0 incident 549739038208 absorbed 549739038208 stored 0\n",
     },
     Case {
         words: "report|net=N|guard=0",

@@ -19,7 +19,7 @@ pub(super) struct Case<'a> {
     pub(super) code: u8,
     /// What the output gains.
     pub(super) out: &'a [u8],
-    /// What the note gains.
+    /// What the note gains; of a run that was done, the end of that.
     pub(super) line: &'a str,
 }
 
@@ -107,6 +107,15 @@ pub(super) fn call(
     })
 }
 
+// The note is what the case tells of it.
+fn is_noted(case: &Case<'_>, note: &[u8]) -> bool {
+    if case.code == 0 && case.words.starts_with("run|") {
+        note.ends_with(case.line.as_bytes())
+    } else {
+        note == case.line.as_bytes()
+    }
+}
+
 /// The outcome is what the case answers.
 pub(super) fn is_as_told(rt: &impl Abort, case: &Case<'_>, outcome: &Outcome) {
     assert_eq!(rt; outcome.code, case.code, "{} {}", case.words, case.line);
@@ -117,7 +126,7 @@ pub(super) fn is_as_told(rt: &impl Abort, case: &Case<'_>, outcome: &Outcome) {
         case.line
     );
     assert!(rt;
-        outcome.note.as_slice() == case.line.as_bytes(),
+        is_noted(case, &outcome.note),
         "note of {} {}",
         case.words,
         case.line

@@ -164,12 +164,39 @@ fn a_note_that_fails_changes_no_answer(rt: HostRuntime) -> Result<(), Fail> {
         assert_eq!(rt; outcome.note.len(), number);
         assert!(rt; REFUSED.line.as_bytes().starts_with(&outcome.note));
     }
+    Ok(())
+}
+
+// What a call whose note failed left there: a front of the whole note, and the line of that.
+fn holds_front(rt: &impl Abort, whole: &[u8], note: &[u8]) {
+    let line = b"wdf: 16 note fault\n";
+    assert!(rt; note.ends_with(line));
+    let front = note.len().saturating_sub(line.len());
+    assert!(rt; front <= note.len());
+    assert!(rt; whole.starts_with(&note[..front]));
+}
+
+// The report, the counts, and a line for each channel of each circuit: the note's calls 0 to 3.
+#[test]
+fn a_run_whose_note_fails_has_written_its_wave(rt: HostRuntime) -> Result<(), Fail> {
+    let alloc = rt.alloc();
     for case in &RUNS {
-        let objects = Objects {
-            note: Some(0),
+        let told = call(&rt, alloc, case, SOUND)?;
+        for number in 0..4 {
+            let objects = Objects {
+                note: Some(number),
+                ..SOUND
+            };
+            let outcome = call(&rt, alloc, case, objects)?;
+            assert_eq!(rt; outcome.code, 16);
+            assert!(rt; outcome.out.as_slice() == case.out);
+            holds_front(&rt, &told.note, &outcome.note);
+        }
+        let behind = Objects {
+            note: Some(4),
             ..SOUND
         };
-        is_answered(&rt, alloc, case, objects)?;
+        is_answered(&rt, alloc, case, behind)?;
     }
     Ok(())
 }

@@ -98,6 +98,6 @@ fn a_block_is_written_before_the_next_is_read(rt: HostRuntime) -> Result<(), Fai
     let status = run(alloc, &words, &mut shelf, &mut input, &mut out, &mut note);
     assert_eq!(rt; status.code(), 0);
     assert_eq!(rt; written.get(), 44 + 4 * 4_096);
-    assert_eq!(rt; noted.get(), 0);
+    assert!(rt; noted.get() > 0);
     Ok(())
 }

@@ -24,7 +24,7 @@ static WAVES: [Case<'static>; 18] = [
         input: &FOUR,
         code: 0,
         out: b"RIFF,\0\0\0WAVEfmt \x10\0\0\0\x01\0\x01\0\x80\xbb\0\0\0w\x01\0\x02\0\x10\0data\x08\0\0\0\xff\xff\x02\0\x01\x80\xff\x7f",
-        line: "",
+        line: "frames 4\nclipped 1\nchannel 0 incident 549739038208 absorbed 549739038208 stored 0\n",
     },
     Case {
         words: "run|net=N|guard=0",
@@ -33,7 +33,7 @@ static WAVES: [Case<'static>; 18] = [
         input: b"RIFF*\0\0\0WAVEfmt \x10\0\0\0\x01\0\x01\0P\xc3\0\0\xa0\x86\x01\0\x02\0\x10\0data\x06\0\0\0\0@\0\0\0\0",
         code: 0,
         out: b"RIFF*\0\0\0WAVEfmt \x10\0\0\0\x01\0\x01\0P\xc3\0\0\xa0\x86\x01\0\x02\0\x10\0data\x06\0\0\0\xaa*q\x1c\x86\xf6",
-        line: "",
+        line: "wdf report 1\nform ladder\nrate 50000\nplan k 14 guard 0 shift 0 frames 67108864 amp 32768 bits 16\nroot S\nelement S source ratio 1099511627776 bound 268435456\nelement C c ratio 1099511627776 bound 268423424\nelement L r ratio 1099511627776 bound 268423424\njunction root 5461\njunction parallel 8192\nlargest 268435456 limit 70368744177664\nstates 1 certified yes\nframes 3\nclipped 0\nchannel 0 incident 268435456 absorbed 266936716 stored 1473930\n",
     },
     Case {
         words: "run|net=N|guard=0",

@@ -1,6 +1,7 @@
 use Rattle.std.proofs.Common.{sym, subst}
 use Rattle.std.proofs.KnownBytes.{Keeps-refl}
 use Rattle.std.specs.Prelude.{IfErr}
+use Rattle.std.specs.Io.KnownBytes.{Appends}
 use Rattle.wdf_io.specs.Moved.{AppendsPart}
 use Rattle.wdf_words.specs.Orders.{texts}
 use Rattle.wdf.specs.declared.certifying_stop.CertifyingStop.TheVariants.{Write}
@@ -11,15 +12,29 @@ use Rattle.wdf.proofs.certifying.certify_words.Goals as goal
 
 -- the write failed
 pub returns-in_err-put_all-clause-refused : goal.returns-in_err-put_all-clause-refused
-returns-in_err-put_all-clause-refused g c left =
+returns-in_err-put_all-clause-refused g c left noted =
     let old = g.O.Sink.written c.args.out.now in
     let now = g.O.Sink.written c.put_all.new.sink in
     let same = handed_on c.from_residual-in_err-put_all.result Write c.from_residual-in_err-put_all.ensures.0 c.from_residual-in_err-put_all.ensures.1 in
     let part = subst (AppendsPart old now) c.deref.ensures.value c.in_err-put_all.ensures.part in
-    subst (λ r. IfErr r (CertifyStops (world (texts c.args.words.now) (g.H.Shelf.files c.args.shelf.now) left left old now) c.args.order.now)) (sym same)
+    subst (λ r. IfErr r (CertifyStops (world (texts c.args.words.now) (g.H.Shelf.files c.args.shelf.now) left left old now noted noted) c.args.order.now)) (sym same)
     (record {
       text = c.in_ok-text.text.items;
       has = record { design = c.in_ok-design.design; networks = c.in_ok-design.ensures.designed; certified = c.in_ok-text.ensures.certified };
       input = Keeps-refl left;
       output = part;
+      note = Keeps-refl noted;
     })
+
+-- the text is written
+pub returns-clause-done : goal.returns-clause-done
+returns-clause-done g c left noted =
+    let old = g.O.Sink.written c.args.out.now in
+    let now = g.O.Sink.written c.put_all.new.sink in
+    record {
+      text = c.in_ok-text.text.items;
+      has = record { design = c.in_ok-design.design; networks = c.in_ok-design.ensures.designed; certified = c.in_ok-text.ensures.certified };
+      input = Keeps-refl left;
+      output = subst (Appends old now) c.deref.ensures.value c.in_ok-put_all.ensures.whole;
+      note = Keeps-refl noted;
+    }

@@ -12,8 +12,8 @@ use Rattle.wdf.proofs.checking.check_words.Goals as goal
 
 -- there are no certificates
 pub returns-in_err-certs-clause-refused : goal.returns-in_err-certs-clause-refused
-returns-in_err-certs-clause-refused g c left =
-    let w = world (texts c.args.words.now) (g.H.Shelf.files c.args.shelf.now) left left (g.O.Sink.written c.args.out.now) (g.O.Sink.written c.args.out.now) in
+returns-in_err-certs-clause-refused g c left noted =
+    let w = world (texts c.args.words.now) (g.H.Shelf.files c.args.shelf.now) left left (g.O.Sink.written c.args.out.now) (g.O.Sink.written c.args.out.now) noted noted in
     let o = c.args.order.now in
     let stop = c.in_err-certs.field-0.0 in
     let same = handed_on c.from_residual-in_err-certs.result (Load stop) c.from_residual-in_err-certs.ensures.0 c.from_residual-in_err-certs.ensures.1 in
@@ -22,13 +22,13 @@ returns-in_err-certs-clause-refused g c left =
       design = c.in_ok-design.design;
       networks = c.in_ok-design.ensures.designed;
       refuses = subst (λ f. LoadRefuses f (word_of o.cert) (name_of (texts c.args.words.now) o.cert) stop) c.in_ok-design.ensures.same c.in_err-certs.ensures.refused;
-      quiet = record { input = Keeps-refl left; output = Keeps-refl (g.O.Sink.written c.args.out.now) };
+      quiet = record { input = Keeps-refl left; output = Keeps-refl (g.O.Sink.written c.args.out.now); note = Keeps-refl noted };
     })
 
 -- they do not certify the networks
 pub returns-in_err-check_certs-clause-refused : goal.returns-in_err-check_certs-clause-refused
-returns-in_err-check_certs-clause-refused g c left =
-    let w = world (texts c.args.words.now) (g.H.Shelf.files c.args.shelf.now) left left (g.O.Sink.written c.args.out.now) (g.O.Sink.written c.args.out.now) in
+returns-in_err-check_certs-clause-refused g c left noted =
+    let w = world (texts c.args.words.now) (g.H.Shelf.files c.args.shelf.now) left left (g.O.Sink.written c.args.out.now) (g.O.Sink.written c.args.out.now) noted noted in
     let o = c.args.order.now in
     let stop = c.in_err-check_certs.field-0.0 in
     let same = handed_on c.from_residual-in_err-check_certs.result (Check stop) c.from_residual-in_err-check_certs.ensures.0 c.from_residual-in_err-check_certs.ensures.1 in
@@ -41,13 +41,13 @@ returns-in_err-check_certs-clause-refused g c left =
         loads = subst (λ f. LoadsCerts f (name_of (texts c.args.words.now) o.cert) c.in_ok-certs.certs) c.in_ok-design.ensures.same c.in_ok-certs.ensures.loads;
       };
       refuses = c.in_err-check_certs.ensures.refused;
-      quiet = record { input = Keeps-refl left; output = Keeps-refl (g.O.Sink.written c.args.out.now) };
+      quiet = record { input = Keeps-refl left; output = Keeps-refl (g.O.Sink.written c.args.out.now); note = Keeps-refl noted };
     })
 
 -- the write failed
 pub returns-in_err-put_all-clause-refused : goal.returns-in_err-put_all-clause-refused
-returns-in_err-put_all-clause-refused g c left =
-    let w = world (texts c.args.words.now) (g.H.Shelf.files c.args.shelf.now) left left (g.O.Sink.written c.args.out.now) (g.O.Sink.written c.put_all.new.sink) in
+returns-in_err-put_all-clause-refused g c left noted =
+    let w = world (texts c.args.words.now) (g.H.Shelf.files c.args.shelf.now) left left (g.O.Sink.written c.args.out.now) (g.O.Sink.written c.put_all.new.sink) noted noted in
     let o = c.args.order.now in
     let same = handed_on c.from_residual-in_err-put_all.result Write c.from_residual-in_err-put_all.ensures.0 c.from_residual-in_err-put_all.ensures.1 in
     subst (λ r. IfErr r (CheckStops w o)) (sym same)
@@ -63,11 +63,12 @@ returns-in_err-put_all-clause-refused g c left =
       };
       input = Keeps-refl left;
       output = c.in_err-put_all.ensures.part;
+      note = Keeps-refl noted;
     })
 
 -- all was done
 pub returns-clause-done : goal.returns-clause-done
-returns-clause-done g c left =
+returns-clause-done g c left noted =
     let o = c.args.order.now in
     record {
       accepted = record {
@@ -81,4 +82,5 @@ returns-clause-done g c left =
       };
       input = Keeps-refl left;
       output = c.in_ok-put_all.ensures.whole;
+      note = Keeps-refl noted;
     }

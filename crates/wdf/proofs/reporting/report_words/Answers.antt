@@ -15,9 +15,9 @@ use Rattle.wdf.proofs.reporting.report_words.Goals as goal
 
 -- the plan does not fit the networks
 pub returns-in_err-bounds-clause-refused : goal.returns-in_err-bounds-clause-refused
-returns-in_err-bounds-clause-refused g c left =
+returns-in_err-bounds-clause-refused g c left noted =
     let old = g.O.Sink.written c.args.out.now in
-    let w = world (texts c.args.words.now) (g.H.Shelf.files c.args.shelf.now) left left old old in
+    let w = world (texts c.args.words.now) (g.H.Shelf.files c.args.shelf.now) left left old old noted noted in
     let o = c.args.order.now in
     let d = c.in_ok-netlist.field-0 in
     let plan : c.plan-plan.result ≡ report_plan o = c.plan-plan.ensures in
@@ -28,14 +28,14 @@ returns-in_err-bounds-clause-refused g c left =
       design = d;
       networks = c.in_ok-netlist.ensures.designed;
       refuses = subst (λ (p : PlanOf). BoundRefuses d.netlist.form d.networks p stop) plan c.in_err-bounds.ensures.refused;
-      quiet = record { input = Keeps-refl left; output = Keeps-refl old };
+      quiet = record { input = Keeps-refl left; output = Keeps-refl old; note = Keeps-refl noted };
     })
 
 -- there is no memory for the text
 pub returns-in_err-text-clause-refused : goal.returns-in_err-text-clause-refused
-returns-in_err-text-clause-refused g c left =
+returns-in_err-text-clause-refused g c left noted =
     let old = g.O.Sink.written c.args.out.now in
-    let w = world (texts c.args.words.now) (g.H.Shelf.files c.args.shelf.now) left left old old in
+    let w = world (texts c.args.words.now) (g.H.Shelf.files c.args.shelf.now) left left old old noted noted in
     let o = c.args.order.now in
     let d = c.in_ok-netlist.field-0 in
     let plan : c.plan-plan.result ≡ report_plan o = c.plan-plan.ensures in
@@ -48,15 +48,15 @@ returns-in_err-text-clause-refused g c left =
         bounds = c.in_ok-bounds.bounds;
         bounded = subst (λ (p : PlanOf). AreBounded d.networks p c.in_ok-bounds.bounds) plan c.in_ok-bounds.ensures.bounded;
       };
-      quiet = record { input = Keeps-refl left; output = Keeps-refl old };
+      quiet = record { input = Keeps-refl left; output = Keeps-refl old; note = Keeps-refl noted };
     })
 
 -- the write failed
 pub returns-in_err-put_all-clause-refused : goal.returns-in_err-put_all-clause-refused
-returns-in_err-put_all-clause-refused g c left =
+returns-in_err-put_all-clause-refused g c left noted =
     let old = g.O.Sink.written c.args.out.now in
     let now = g.O.Sink.written c.put_all.new.sink in
-    let w = world (texts c.args.words.now) (g.H.Shelf.files c.args.shelf.now) left left old now in
+    let w = world (texts c.args.words.now) (g.H.Shelf.files c.args.shelf.now) left left old now noted noted in
     let o = c.args.order.now in
     let d = c.in_ok-netlist.field-0 in
     let plan : c.plan-plan.result ≡ report_plan o = c.plan-plan.ensures in
@@ -76,11 +76,12 @@ returns-in_err-put_all-clause-refused g c left =
       };
       input = Keeps-refl left;
       output = subst (AppendsPart old now) c.deref.ensures.value c.in_err-put_all.ensures.part;
+      note = Keeps-refl noted;
     })
 
 -- the report is written
 pub returns-clause-done : goal.returns-clause-done
-returns-clause-done g c left =
+returns-clause-done g c left noted =
     let o = c.args.order.now in
     let d = c.in_ok-netlist.field-0 in
     let plan : c.plan-plan.result ≡ report_plan o = c.plan-plan.ensures in
@@ -98,4 +99,5 @@ returns-clause-done g c left =
       };
       input = Keeps-refl left;
       output = subst (Appends (g.O.Sink.written c.args.out.now) (g.O.Sink.written c.put_all.new.sink)) c.deref.ensures.value c.in_ok-put_all.ensures.whole;
+      note = Keeps-refl noted;
     }
