@@ -1,0 +1,4 @@
+pub mod LadderLemmas
+pub mod OrderLemmas
+pub mod ValueLemmas
+pub mod WordLemmas

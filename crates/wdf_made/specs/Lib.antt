@@ -1,0 +1,4 @@
+pub mod Generator
+pub mod Ladder
+pub mod LadderLaws
+pub mod Wave

@@ -1,0 +1,4 @@
+pub mod Figures
+pub mod GrowingSink
+pub mod Soaks
+pub mod Summary
