@@ -11,6 +11,7 @@
 
 mod figures;
 mod growing_sink;
+pub mod laws;
 mod running;
 mod soak_stop;
 mod soaking;
