@@ -1,5 +1,5 @@
 -- What is told of a run on a ladder and a wave that were made for it.
-use Rattle.std.specs.Prelude.{◌≡◌, ℕ, Bool, List, Option, Some, ⊤, length}
+use Rattle.std.specs.Prelude.{◌≡◌, ℕ, Bool, List, Option, Some, ⊤}
 use Rattle.wdf_law.specs.declared.side.Side.{Side}
 use Rattle.wdf_law.specs.declared.side.Side.TheVariants.{Whole}
 use Rattle.wdf_law.specs.Network.{Network}
@@ -14,8 +14,7 @@ use Rattle.wdf_stages.specs.declared.plan_bounds.PlanBounds.{PlanBounds}
 use Rattle.wdf_stages.specs.Bounding.{AreBounded, BoundRefuses}
 use Rattle.wdf_stages.specs.Designing.{DesignRefuses}
 use Rattle.wdf_energy.specs.declared.totals.Totals.{Totals}
-use Rattle.wdf_wav.specs.Header.{IsFrameFormat, data_size}
-use Rattle.wdf_frames.specs.Setting.{AreWithin, Setting, setting}
+use Rattle.wdf_frames.specs.Setting.{Setting, setting}
 use Rattle.wdf_frames.specs.Written.{IsWritten}
 use Rattle.wdf_frames.specs.RunFacts.{TellsRun}
 use Rattle.wdf_reporting.specs.Findings.{IsFinding}
@@ -33,13 +32,11 @@ usual_plan = plan_of 14 4 0 67108864 32768 16
 abbrev pub made_setting : Networks → (frames : ℕ) → Setting
 made_setting ns frames = setting ns usual_plan (made_head frames)
 
--- ---- a run on a wave that is whole
+-- ---- the certificate
 
--- body is the data of all frames, whose samples are within amp
-pub record IsWholeWave (s : Setting) (body : List ℕ) : Type 0 where
-  pub format : IsFrameFormat s.head.channels s.head.bits
-  pub size : length body ≡ data_size s.head
-  pub within : AreWithin s body
+-- whether the network of the whole circuit has a certificate
+abbrev pub HasFinding : Networks → (certified : Bool) → Type 0
+HasFinding ns certified = (n : Network) × (network_at ns Whole ≡ Some n) × IsFinding n certified
 
 -- ---- the summary
 

@@ -1,6 +1,6 @@
 //! The figures of the output samples of a wave of 16 bits.
 
-ghost use Rattle.std.specs.Prelude.{◌≡◌, ◌≤◌, ◌<◌, ◌+◌, ◌*◌, ◌^◌, ◌≤ℤ◌, ◌-ℤ◌, pos, [], length, slice_index_or};
+ghost use Rattle.std.specs.Prelude.{◌≡◌, ◌≤◌, ◌+◌, ◌*◌, ◌^◌, ◌≤ℤ◌, ◌-ℤ◌, pos, [], length, slice_index_or};
 ghost use Rattle.wdf_algebra.specs.Samples.{IsSampleValue};
 ghost use Rattle.wdf_wav.specs.PcmStream.{samples_of};
 ghost use Rattle.wdf_soak.specs.Figures.{figures_of, figures_with, greater, lesser};
@@ -12,7 +12,7 @@ use wdf_wav::sample_of;
 /// The sum, the least and the greatest of the output samples of a wave.
 #[derive(Clone, Copy, Debug, PartialEq, Eq)]
 pub struct Figures {
-    pub sum: i64,
+    pub sum: i128,
     pub least: i64,
     pub greatest: i64,
 }
@@ -43,13 +43,13 @@ impl Figures {
 
     // Those with one sample more.
     fn with(self, sample: i64) -> Figures
-        requires low { (pos 0 -ℤ pos (2 ^ 62)) ≤ℤ self.sum }
-        requires high { self.sum ≤ℤ pos (2 ^ 62) }
+        requires low { (pos 0 -ℤ pos (2 ^ 100)) ≤ℤ self.sum }
+        requires high { self.sum ≤ℤ pos (2 ^ 100) }
         requires sample { IsSampleValue 16 sample }
         ensures { result ≡ figures_with self sample }
     {
         Figures {
-            sum: self.sum + sample,
+            sum: self.sum + i128::from(sample),
             least: lesser(self.least, sample),
             greatest: greater(self.greatest, sample),
         }
@@ -67,10 +67,9 @@ fn sample_at(bytes: &[u8], place: usize) -> i64
     sample_of(&bytes[2 * place..2 * place + 2], 16)
 }
 
-/// The figures of the samples in the data of a mono wave of 16 bits, of fewer than 2^40 bytes.
+/// The figures of the samples in the data of a mono wave of 16 bits.
 #[tactic(auto, using(crate::proofs::FigureLemmas::figures_next))]
 pub fn figures_in(bytes: &[u8]) -> Figures
-    requires { length bytes.now < 2 ^ 40 }
     ensures { result ≡ figures_of (samples_of 16 bytes.now) }
 {
     data_append(16);

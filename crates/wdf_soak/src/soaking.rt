@@ -7,12 +7,16 @@ ghost use Rattle.wdf_design.specs.Realising.{RealisesEach};
 ghost use Rattle.wdf_lattice.specs.Runners.{DriveAll, FitsEach};
 ghost use Rattle.wdf_lattice.specs.Sides.{network_at, run_count, sources_driven};
 ghost use Rattle.wdf_stages.specs.Bounding.{AreBounded};
+ghost use Rattle.wdf_frames.specs.RunFacts.{TellsRun};
+ghost use Rattle.wdf_frames.specs.RunStates.{limited_by, setting_of, totals_by};
+ghost use Rattle.wdf_frames.specs.Written.{IsWritten};
 ghost use Rattle.wdf_made.specs.Ladder.{made_netlist};
+ghost use Rattle.wdf_made.specs.Wave.{made_data};
 ghost use Rattle.wdf_made.specs.declared.TheConstants.{MAX_FRAMES, MAX_ORDER};
-ghost use Rattle.wdf_soak.specs.Soaks.{IsSoaked, IsSummary, LadderRefuses, SoakRefuses, WordsRefuse, usual_plan};
+ghost use Rattle.wdf_soak.specs.Soaks.{HasFinding, IsSoaked, IsSummary, LadderRefuses, SoakRefuses, WordsRefuse, made_setting, usual_plan};
 
 use crate::figures::figures_in;
-use crate::running::write_wave;
+use crate::running::{begin_run, write_wave};
 use crate::soak_stop::SoakStop;
 use crate::summarising::summary;
 use std::alloc::{AllocError, Global};
@@ -21,7 +25,7 @@ use wdf_frames::WaveRun;
 use wdf_lattice::Networks;
 use wdf_law::{Net, Side};
 use wdf_made::laws::{one_edge, one_source};
-use wdf_made::{made_data, made_head, made_netlist};
+use wdf_made::made_netlist;
 use wdf_netlist::Netlist;
 use wdf_reporting::is_certified;
 use wdf_stages::{BoundStop, DesignStop, PlanBounds, bound_words, design_networks};
@@ -105,6 +109,40 @@ fn whole(networks: &Networks) -> &Net
     networks.side(Side::Whole).unwrap()
 }
 
+// Whether it has a certificate.
+fn certify_ladder(alloc: Global, networks: &Networks) -> Result<bool, AllocError>
+    requires { IsSome (network_at networks.now Whole) }
+    ensures { IfOk result (HasFinding networks.now) }
+{
+    is_certified(alloc, whole(networks))
+}
+
+// The summary of a run that is done, and of the wave that it wrote.
+#[tactic(auto, using(crate::proofs::TellLemmas::head_long, crate::proofs::TellLemmas::has_totals))]
+fn tell_run(
+    alloc: Global,
+    seed: u64,
+    order: u8,
+    frames: u32,
+    certified: bool,
+    run: &WaveRun,
+    wave: &[u8],
+) -> Result<Vec<u8>, AllocError>
+    requires set { setting_of run.now ≡ made_setting (setting_of run.now).networks frames }
+    requires found { HasFinding (setting_of run.now).networks certified }
+    requires written { IsWritten (setting_of run.now) (made_data seed order frames) wave.now }
+    requires told { TellsRun (setting_of run.now) (made_data seed order frames) (limited_by run.now) (totals_by run.now) }
+    ensures { IfOk result (λ text. IsSummary seed order frames (setting_of run.now).networks text.items) }
+{
+    let figures = figures_in(&wave[44..]);
+    let totals = run.totals(Side::Whole, 0).unwrap();
+    let net = whole(run.networks());
+    let clipped = run.limited();
+    summary(
+        alloc, seed, order, net, certified, frames, clipped, &figures, &totals,
+    )
+}
+
 // The summary of the run of the made wave.
 fn run_ladder(
     alloc: Global,
@@ -115,7 +153,6 @@ fn run_ladder(
     plan: &Plan,
 ) -> Result<Vec<u8>, AllocError>
     requires order { order ≤ MAX_ORDER }
-    requires some { 1 ≤ frames }
     requires few { frames ≤ MAX_FRAMES }
     requires plan { plan.now ≡ usual_plan }
     requires whole { IsSome (network_at networks Whole) }
@@ -124,24 +161,10 @@ fn run_ladder(
     requires driven { DriveAll networks (run_count networks 1) }
     ensures { IfOk result (λ text. IsSummary seed order frames networks text.items) }
 {
-    let certified = is_certified(alloc, whole(&networks))?;
-    let mut run = WaveRun::new(alloc, networks, plan, &made_head(frames))?;
-    let data = made_data(alloc, seed, order, frames)?;
-    let wave = write_wave(alloc, &mut run, data)?;
-    let figures = figures_in(&wave[44..]);
-    let totals = run.totals(Side::Whole, 0).unwrap();
-    let net = whole(run.networks());
-    summary(
-        alloc,
-        seed,
-        order,
-        net,
-        certified,
-        frames,
-        run.limited(),
-        &figures,
-        &totals,
-    )
+    let certified = certify_ladder(alloc, &networks)?;
+    let mut run = begin_run(alloc, networks, plan, frames)?;
+    let wave = write_wave(alloc, &mut run, seed, order, frames)?;
+    tell_run(alloc, seed, order, frames, certified, &run, &wave)
 }
 
 /// The summary of what a run writes on the ladder and the wave that are made for a seed, an order in

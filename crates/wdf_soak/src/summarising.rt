@@ -12,22 +12,27 @@ use wdf_energy::Totals;
 use wdf_law::{Net, Side};
 use wdf_reporting::{count_lines, ledger_line};
 
+// A label and the word behind it.
+fn push_word(out: &mut Vec<u8>, label: &[u8], word: &[u8]) -> Result<(), AllocError>
+    ensures { OnOk result (out.new.items ≡ out.old.items ++ label.now ++ word.now) }
+{
+    out.extend_from_slice(label)?;
+    out.extend_from_slice(word)?;
+    Ok(())
+}
+
 // A label and the number behind it.
 fn push_number(out: &mut Vec<u8>, label: &[u8], n: u64) -> Result<(), AllocError>
     ensures { OnOk result (out.new.items ≡ out.old.items ++ label.now ++ decimal n) }
 {
-    out.extend_from_slice(label)?;
-    out.extend_from_slice(Buffer::new().format(n).as_bytes())?;
-    Ok(())
+    push_word(out, label, Buffer::new().format(n).as_bytes())
 }
 
 // A label and the number behind it, which may be negative.
-fn push_signed(out: &mut Vec<u8>, label: &[u8], n: i64) -> Result<(), AllocError>
+fn push_signed(out: &mut Vec<u8>, label: &[u8], n: i128) -> Result<(), AllocError>
     ensures { OnOk result (out.new.items ≡ out.old.items ++ label.now ++ signed_decimal n) }
 {
-    out.extend_from_slice(label)?;
-    out.extend_from_slice(Buffer::new().format(n).as_bytes())?;
-    Ok(())
+    push_word(out, label, Buffer::new().format(n).as_bytes())
 }
 
 // The line of what was asked for.
@@ -45,11 +50,8 @@ fn push_states(out: &mut Vec<u8>, net: &Net, certified: bool) -> Result<(), Allo
     ensures { OnOk result (out.new.items ≡ out.old.items ++ states_line net.now certified ++ 10 ∷ []) }
 {
     push_number(out, b"states ", net.state_count() as u64)?;
-    out.extend_from_slice(if certified {
-        b" certified yes\n"
-    } else {
-        b" certified no\n"
-    })?;
+    push_word(out, b" certified ", if certified { b"yes" } else { b"no" })?;
+    out.push(b'\n')?;
     Ok(())
 }
 
@@ -58,8 +60,8 @@ fn push_figures(out: &mut Vec<u8>, figures: &Figures) -> Result<(), AllocError>
     ensures { OnOk result (out.new.items ≡ out.old.items ++ figures_line figures.now ++ 10 ∷ []) }
 {
     push_signed(out, b"sum ", figures.sum)?;
-    push_signed(out, b" least ", figures.least)?;
-    push_signed(out, b" greatest ", figures.greatest)?;
+    push_signed(out, b" least ", i128::from(figures.least))?;
+    push_signed(out, b" greatest ", i128::from(figures.greatest))?;
     out.push(b'\n')?;
     Ok(())
 }
