@@ -27,9 +27,9 @@ header_long head = refl
 pub head_long : (s : Setting) (body wave : List ℕ) → IsWritten s body wave → 44 ≤ length wave
 head_long s body wave h =
     let header = head_bytes_of (written_head s) in
-    let data = coded s h.result.waves in
+    let samples = coded s h.result.waves in
     let pad = replicate (pad_size (written_head s)) 0 in
-    omega (arith, ap length h.padded, ap length h.result.parts, length-append h.unpadded pad, length-append header data, header_long (written_head s))
+    omega (arith, ap length h.padded, ap length h.result.parts, length-append h.unpadded pad, length-append header samples, header_long (written_head s))
 
 -- ---- the totals of its one run
 
