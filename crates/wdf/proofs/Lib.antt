@@ -1,3 +1,4 @@
+mod AskedLemmas
 mod Chains
 mod Handed
 mod StopLemmas
@@ -10,6 +11,7 @@ mod HeadLemmas
 mod ReportTrace
 mod RunLemmas
 mod RunTrace
+mod SoakTrace
 mod StatusLemmas
 mod RefusalLemmas
 mod KeptLemmas

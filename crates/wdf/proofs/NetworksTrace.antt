@@ -8,7 +8,7 @@ use Rattle.wdf_stages.specs.declared.netlist_stop.NetlistStop.TheVariants as net
 use Rattle.wdf_stages.specs.declared.design_stop.DesignStop.TheVariants as designs
 use Rattle.wdf_stages.specs.StageLaws.{IsNetlistAnswer, IsDesignAnswer, HasOneNetlist, HasOneDesign}
 use Rattle.wdf_report.specs.declared.status.Status.{Status}
-use Rattle.wdf_report.specs.declared.status.Status.TheVariants.{Done, Usage, NetText, NotSeriesParallel, PortRange, Bound, BadWave, RateMismatch, TooLong, Amplitude, Truncated, Unobservable, CertText, CertWrong, ReadFault, WriteFault, NoteFault, LoadFault, Missing, FileTooLarge, NoMemory, Unbuilt, ChannelCount}
+use Rattle.wdf_report.specs.declared.status.Status.TheVariants.{Done, Usage, NetText, NotSeriesParallel, PortRange, Bound, BadWave, RateMismatch, TooLong, Amplitude, Truncated, Unobservable, CertText, CertWrong, ReadFault, WriteFault, NoteFault, LoadFault, Missing, FileTooLarge, NoMemory, ChannelCount}
 use Rattle.wdf_words.specs.declared.order.Order.{Order}
 use Rattle.wdf.specs.declared.designed.Designed.{Designed}
 use Rattle.wdf.specs.Statuses.{status_of_netlist, status_of_design}
@@ -81,5 +81,4 @@ networks_trace fs words left left' written written' noted noted' o later LoadFau
 networks_trace fs words left left' written written' noted noted' o later (Missing word) r h = at_netlist fs words o later (netlists.Missing word) (refl, h.refuses)
 networks_trace fs words left left' written written' noted noted' o later (FileTooLarge word) r h = at_netlist fs words o later (netlists.FileTooLarge word) (refl, h.refuses)
 networks_trace fs words left left' written written' noted noted' o later NoMemory r h = absurd (no r)
-networks_trace fs words left left' written written' noted noted' o later (Unbuilt part) r h = absurd h
 networks_trace fs words left left' written written' noted noted' o later (ChannelCount have want) r h = absurd h

@@ -7,7 +7,7 @@ use Rattle.wdf_stages.specs.StageLaws.{HasOneNetlist, HasOneDesign, HasOneOpenin
 use Rattle.wdf_certificates.specs.CertLaws.{HasOneCertifying, HasOneLoading, HasOneChecking}
 use Rattle.wdf_frames.specs.Ends.{HasOneEnd}
 use Rattle.wdf_report.specs.declared.status.Status.{Status}
-use Rattle.wdf_report.specs.declared.status.Status.TheVariants.{Done, LoadFault, ReadFault, WriteFault, NoteFault, NoMemory, Unbuilt}
+use Rattle.wdf_report.specs.declared.status.Status.TheVariants.{Done, LoadFault, ReadFault, WriteFault, NoteFault, NoMemory}
 use Rattle.wdf_words.specs.declared.command.Command.{Command}
 use Rattle.wdf_words.specs.declared.command.Command.TheVariants.{Run, Report, Certify, Check, Soak}
 use Rattle.wdf_words.specs.declared.order.Order.{Order}
@@ -19,15 +19,17 @@ use Rattle.wdf.specs.CertifyAnswer.{RefusesCertify}
 use Rattle.wdf.specs.CheckAnswer.{RefusesCheck}
 use Rattle.wdf.specs.ReportAnswer.{RefusesReport}
 use Rattle.wdf.specs.RunAnswer.{RefusesRun}
+use Rattle.wdf.specs.SoakAnswer.{RefusesSoak}
 use Rattle.wdf.specs.Answer.{DoesOrder, DoesWords, RefusesOrder, RefusesWords}
 use Rattle.wdf.specs.AnswerLaws.{HasOneAnswer, rests_on_told}
-use Rattle.wdf.specs.Complete.{CanRun, CanReport, CanCertify, CanCheck, CanDo, CanDoWords}
+use Rattle.wdf.specs.Complete.{CanRun, CanReport, CanCertify, CanCheck, CanSoak, CanDo, CanDoWords}
 use Rattle.wdf.proofs.Chains.{HasOne, one_value}
 use Rattle.wdf.proofs.StatusLemmas.{is_done, no_memory}
 use Rattle.wdf.proofs.CertifyTrace.{CertifyTrace, one_certify, certified, certify_done, certify_trace}
 use Rattle.wdf.proofs.CheckTrace.{CheckTrace, one_check, accepted, check_done, check_trace}
 use Rattle.wdf.proofs.ReportTrace.{ReportTrace, one_report, reported, report_done, report_trace}
 use Rattle.wdf.proofs.RunTrace.{RunTrace, one_run, filtered, run_done, run_trace}
+use Rattle.wdf.proofs.SoakTrace.{SoakTrace, one_soak, soaked, soak_done, soak_trace}
 
 -- ---- the chain of stages that words ask for
 
@@ -36,7 +38,7 @@ OrderTrace Run fs words bytes o s = RunTrace fs words bytes o s
 OrderTrace Certify fs words bytes o s = CertifyTrace fs words o s
 OrderTrace Check fs words bytes o s = CheckTrace fs words o s
 OrderTrace Report fs words bytes o s = ReportTrace fs words o s
-OrderTrace Soak fs words bytes o s = s ≡ Unbuilt 1
+OrderTrace Soak fs words bytes o s = SoakTrace o s
 
 abbrev WordsTrace : Result Order UsageFault → Files → List (List ℕ) → (bytes : List ℕ) → Status → Type 0
 WordsTrace (Ok o) fs words bytes s = OrderTrace o.command fs words bytes o s
@@ -48,7 +50,7 @@ one_order one_netlist one_design one_certifying one_loading one_checking one_ope
 one_order one_netlist one_design one_certifying one_loading one_checking one_opening one_head one_bound one_end Certify fs words bytes o = one_certify one_netlist one_design one_certifying fs words o
 one_order one_netlist one_design one_certifying one_loading one_checking one_opening one_head one_bound one_end Check fs words bytes o = one_check one_netlist one_design one_loading one_checking fs words o
 one_order one_netlist one_design one_certifying one_loading one_checking one_opening one_head one_bound one_end Report fs words bytes o = one_report one_netlist one_design one_bound fs words o
-one_order one_netlist one_design one_certifying one_loading one_checking one_opening one_head one_bound one_end Soak fs words bytes o = one_value (Unbuilt 1)
+one_order one_netlist one_design one_certifying one_loading one_checking one_opening one_head one_bound one_end Soak fs words bytes o = one_soak one_design one_bound o
 
 one_words : HasOneNetlist → HasOneDesign → HasOneCertifying → HasOneLoading → HasOneChecking → HasOneOpening → IsOneHead → HasOneBound → HasOneEnd
     → (m : Result Order UsageFault) (fs : Files) (words : List (List ℕ)) (bytes : List ℕ) → HasOne (WordsTrace m fs words bytes)
@@ -61,7 +63,7 @@ order_done Run fs words bytes left' written written' noted noted' o h = run_done
 order_done Certify fs words bytes left' written written' noted noted' o h = certify_done fs words (Some bytes) left' written written' noted noted' o h
 order_done Check fs words bytes left' written written' noted noted' o h = check_done fs words (Some bytes) left' written written' noted noted' o h
 order_done Report fs words bytes left' written written' noted noted' o h = report_done fs words (Some bytes) left' written written' noted noted' o h
-order_done Soak fs words bytes left' written written' noted noted' o h = absurd h
+order_done Soak fs words bytes left' written written' noted noted' o h = soak_done (world words (Some fs) (Some bytes) left' written written' noted noted') o h
 
 order_refused : (c : Command) (fs : Files) (words : List (List ℕ)) (bytes : List ℕ) (left' written written' noted noted' : Option (List ℕ)) (o : Order) (s : Status)
     → IsTrue (rests_on_told s) → RefusesOrder c (world words (Some fs) (Some bytes) left' written written' noted noted') o s → OrderTrace c fs words bytes o s
@@ -69,7 +71,7 @@ order_refused Run fs words bytes left' written written' noted noted' o s r h = r
 order_refused Certify fs words bytes left' written written' noted noted' o s r h = certify_trace fs words (Some bytes) left' written written' noted noted' o s r h
 order_refused Check fs words bytes left' written written' noted noted' o s r h = check_trace fs words (Some bytes) left' written written' noted noted' o s r h
 order_refused Report fs words bytes left' written written' noted noted' o s r h = report_trace fs words (Some bytes) left' written written' noted noted' o s r h
-order_refused Soak fs words bytes left' written written' noted noted' o s r h = h.is
+order_refused Soak fs words bytes left' written written' noted noted' o s r h = soak_trace (world words (Some fs) (Some bytes) left' written written' noted noted') o s r h
 
 words_trace : (m : Result Order UsageFault) (fs : Files) (words : List (List ℕ)) (bytes : List ℕ) (left' written written' noted noted' : Option (List ℕ)) (s : Status)
     → IsTrue (rests_on_told s) → (s ≡ Done → DoesWords m (world words (Some fs) (Some bytes) left' written written' noted noted'))
@@ -138,13 +140,20 @@ check_complete one_netlist one_design one_certifying one_loading one_checking on
     (λ r. one_check one_netlist one_design one_loading one_checking fs w.words o s Done (check_trace fs w.words w.left w.left' w.written w.written' w.noted w.noted' o s r told) all)
     n load read write note
 
+soak_complete : HasOneDesign → HasOneBound → (w : World) (o : Order) (s : Status) → CanSoak o → RefusesSoak w o s
+    → s ≢ Done → s ≢ LoadFault → s ≢ ReadFault → s ≢ WriteFault → s ≢ NoteFault → s ≡ NoMemory
+soak_complete one_design one_bound w o s can refused n load read write note =
+    only_memory s (rests_on_told s) refl
+    (λ r. one_soak one_design one_bound o s Done (soak_trace w o s r refused) (soaked o can.networks can.bounds can.designed can.bounded))
+    n load read write note
+
 order_complete : HasOneNetlist → HasOneDesign → HasOneCertifying → HasOneLoading → HasOneChecking → HasOneOpening → IsOneHead → HasOneBound → HasOneEnd → (c : Command) (w : World) (o : Order) (s : Status) → CanDo c w.words w.files w.left o → RefusesOrder c w o s
     → s ≢ Done → s ≢ LoadFault → s ≢ ReadFault → s ≢ WriteFault → s ≢ NoteFault → s ≡ NoMemory
 order_complete one_netlist one_design one_certifying one_loading one_checking one_opening one_head one_bound one_end Run w o s can refused n load read write note = run_complete one_netlist one_design one_certifying one_loading one_checking one_opening one_head one_bound one_end w o s can refused n load read write note
 order_complete one_netlist one_design one_certifying one_loading one_checking one_opening one_head one_bound one_end Certify w o s can refused n load read write note = certify_complete one_netlist one_design one_certifying one_loading one_checking one_opening one_head one_bound one_end w o s can refused n load read write note
 order_complete one_netlist one_design one_certifying one_loading one_checking one_opening one_head one_bound one_end Check w o s can refused n load read write note = check_complete one_netlist one_design one_certifying one_loading one_checking one_opening one_head one_bound one_end w o s can refused n load read write note
 order_complete one_netlist one_design one_certifying one_loading one_checking one_opening one_head one_bound one_end Report w o s can refused n load read write note = report_complete one_netlist one_design one_certifying one_loading one_checking one_opening one_head one_bound one_end w o s can refused n load read write note
-order_complete one_netlist one_design one_certifying one_loading one_checking one_opening one_head one_bound one_end Soak w o s can refused n load read write note = absurd can
+order_complete one_netlist one_design one_certifying one_loading one_checking one_opening one_head one_bound one_end Soak w o s can refused n load read write note = soak_complete one_design one_bound w o s can refused n load read write note
 
 pub complete : HasOneNetlist → HasOneDesign → HasOneCertifying → HasOneLoading → HasOneChecking → HasOneOpening → IsOneHead → HasOneBound → HasOneEnd → (m : Result Order UsageFault) (w : World) (s : Status) → CanDoWords m w.words w.files w.left → RefusesWords m w s
     → s ≢ Done → s ≢ LoadFault → s ≢ ReadFault → s ≢ WriteFault → s ≢ NoteFault → s ≡ NoMemory

@@ -10,7 +10,7 @@ use Rattle.wdf_lattice.specs.declared.networks.Networks.TheVariants.{Ladder, Lat
 use Rattle.wdf_certificates.specs.declared.check_stop.CheckStop.TheVariants as checks
 use Rattle.wdf_certificates.specs.CertChecking.{CheckRefuses}
 use Rattle.wdf_report.specs.declared.status.Status.{Status}
-use Rattle.wdf_report.specs.declared.status.Status.TheVariants.{Done, Usage, NetText, NotSeriesParallel, PortRange, Bound, BadWave, RateMismatch, TooLong, Amplitude, Truncated, Unobservable, CertText, CertWrong, ReadFault, WriteFault, NoteFault, LoadFault, Missing, FileTooLarge, NoMemory, Unbuilt, ChannelCount}
+use Rattle.wdf_report.specs.declared.status.Status.TheVariants.{Done, Usage, NetText, NotSeriesParallel, PortRange, Bound, BadWave, RateMismatch, TooLong, Amplitude, Truncated, Unobservable, CertText, CertWrong, ReadFault, WriteFault, NoteFault, LoadFault, Missing, FileTooLarge, NoMemory, ChannelCount}
 use Rattle.wdf_report.specs.FaultLine.{HasFaultLine}
 use Rattle.wdf_words.specs.declared.command.Command.{Command}
 use Rattle.wdf_words.specs.declared.command.Command.TheVariants as commands
@@ -26,7 +26,7 @@ order_not_done commands.Run w o h = h
 order_not_done commands.Certify w o h = h
 order_not_done commands.Check w o h = h
 order_not_done commands.Report w o h = h
-order_not_done commands.Soak w o h = let e = h.is in absurd (cc)
+order_not_done commands.Soak w o h = h
 
 pub not_done : (m : Result Order UsageFault) (w : World) → RefusesWords m w Done → ⊥
 not_done (Ok o) w h = order_not_done o.command w o h
@@ -47,7 +47,7 @@ order_line commands.Run w o side fault h = absurd h
 order_line commands.Certify w o side fault h = absurd h
 order_line commands.Check w o side fault h = wrong_line h.has.design.networks h.has.certs.first h.has.certs.second side fault h.refuses
 order_line commands.Report w o side fault h = absurd h
-order_line commands.Soak w o side fault h = let e = h.is in absurd (cc)
+order_line commands.Soak w o side fault h = absurd h
 
 words_line : (m : Result Order UsageFault) (w : World) (side : Side) (fault : CertFault) → RefusesWords m w (CertWrong side fault) → fault ≢ faults.NoMemory
 words_line (Ok o) w side fault h = order_line o.command w o side fault h
@@ -75,5 +75,4 @@ has_line m w LoadFault h = tt
 has_line m w (Missing word) h = tt
 has_line m w (FileTooLarge word) h = tt
 has_line m w NoMemory h = tt
-has_line m w (Unbuilt part) h = tt
 has_line m w (ChannelCount have want) h = tt

@@ -6,7 +6,7 @@ use Rattle.wdf_netlist.specs.Netlists.{NetlistValue}
 use Rattle.wdf_lattice.specs.declared.networks.Networks.{Networks}
 use Rattle.wdf_stages.specs.StageLaws.{HasOneNetlist, HasOneDesign}
 use Rattle.wdf_report.specs.declared.status.Status.{Status}
-use Rattle.wdf_report.specs.declared.status.Status.TheVariants.{Done, Usage, NetText, NotSeriesParallel, PortRange, Bound, BadWave, RateMismatch, TooLong, Amplitude, Truncated, Unobservable, CertText, CertWrong, ReadFault, WriteFault, NoteFault, LoadFault, Missing, FileTooLarge, NoMemory, Unbuilt, ChannelCount}
+use Rattle.wdf_report.specs.declared.status.Status.TheVariants.{Done, Usage, NetText, NotSeriesParallel, PortRange, Bound, BadWave, RateMismatch, TooLong, Amplitude, Truncated, Unobservable, CertText, CertWrong, ReadFault, WriteFault, NoteFault, LoadFault, Missing, FileTooLarge, NoMemory, ChannelCount}
 use Rattle.wdf_words.specs.declared.order.Order.{Order}
 use Rattle.wdf.specs.declared.designed.Designed.{Designed}
 use Rattle.wdf.specs.World.{world}
@@ -71,5 +71,4 @@ report_trace fs words left left' written written' noted noted' o LoadFault r h =
 report_trace fs words left left' written written' noted noted' o (Missing word) r h = networks_trace fs words left left' written written' noted noted' o (ReportLater o) (Missing word) r h
 report_trace fs words left left' written written' noted noted' o (FileTooLarge word) r h = networks_trace fs words left left' written written' noted noted' o (ReportLater o) (FileTooLarge word) r h
 report_trace fs words left left' written written' noted noted' o NoMemory r h = absurd (no r)
-report_trace fs words left left' written written' noted noted' o (Unbuilt part) r h = networks_trace fs words left left' written written' noted noted' o (ReportLater o) (Unbuilt part) r h
 report_trace fs words left left' written written' noted noted' o (ChannelCount have want) r h = networks_trace fs words left left' written written' noted noted' o (ReportLater o) (ChannelCount have want) r h

@@ -3,7 +3,7 @@ use Rattle.std.proofs.Common.{◌≡◌, false, inl, inr, refl}
 use Rattle.std.specs.Prelude.{◌≢◌, ◌⊎◌}
 use Rattle.std.proofs.lemmas.Bool.{true≢false}
 use Rattle.wdf_report.specs.declared.status.Status.{Status}
-use Rattle.wdf_report.specs.declared.status.Status.TheVariants.{Done, Usage, NetText, NotSeriesParallel, PortRange, Bound, BadWave, RateMismatch, TooLong, Amplitude, Truncated, Unobservable, CertText, CertWrong, ReadFault, WriteFault, NoteFault, LoadFault, Missing, FileTooLarge, NoMemory, Unbuilt, ChannelCount}
+use Rattle.wdf_report.specs.declared.status.Status.TheVariants.{Done, Usage, NetText, NotSeriesParallel, PortRange, Bound, BadWave, RateMismatch, TooLong, Amplitude, Truncated, Unobservable, CertText, CertWrong, ReadFault, WriteFault, NoteFault, LoadFault, Missing, FileTooLarge, NoMemory, ChannelCount}
 use Rattle.wdf.specs.AnswerLaws.{rests_on_told}
 
 -- all was done, or not
@@ -29,7 +29,6 @@ is_done LoadFault = inr (λ e. cc)
 is_done (Missing word) = inr (λ e. cc)
 is_done (FileTooLarge word) = inr (λ e. cc)
 is_done NoMemory = inr (λ e. cc)
-is_done (Unbuilt part) = inr (λ e. cc)
 is_done (ChannelCount have want) = inr (λ e. cc)
 
 -- of the answers that do not rest on what is told, want of memory is the only one that is no fault
@@ -55,5 +54,4 @@ no_memory LoadFault e load read write note = absurd (load refl)
 no_memory (Missing word) e load read write note = absurd (true≢false e)
 no_memory (FileTooLarge word) e load read write note = absurd (true≢false e)
 no_memory NoMemory e load read write note = refl
-no_memory (Unbuilt part) e load read write note = absurd (true≢false e)
 no_memory (ChannelCount have want) e load read write note = absurd (true≢false e)

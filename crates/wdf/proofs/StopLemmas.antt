@@ -4,6 +4,7 @@ use Rattle.wdf_stages.specs.declared.netlist_stop.NetlistStop.TheVariants as net
 use Rattle.wdf_stages.specs.declared.design_stop.DesignStop.TheVariants as designs
 use Rattle.wdf_stages.specs.declared.open_stop.OpenStop.TheVariants as opens
 use Rattle.wdf_stages.specs.declared.bound_stop.BoundStop.TheVariants as bounds
+use Rattle.wdf_soak.specs.declared.soak_stop.SoakStop.TheVariants as soaks
 use Rattle.wdf_frames.specs.declared.frame_stop.FrameStop.TheVariants as frames_
 use Rattle.wdf_certificates.specs.declared.certify_stop.CertifyStop.TheVariants as certifies
 use Rattle.wdf_certificates.specs.declared.load_stop.LoadStop.TheVariants as loads
@@ -18,14 +19,17 @@ use Rattle.wdf.specs.declared.reporting_stop.ReportingStop.{ReportingStop}
 use Rattle.wdf.specs.declared.reporting_stop.ReportingStop.TheVariants as reporting
 use Rattle.wdf.specs.declared.beginning_stop.BeginningStop.{BeginningStop}
 use Rattle.wdf.specs.declared.beginning_stop.BeginningStop.TheVariants as beginning
+use Rattle.wdf.specs.declared.soaking_stop.SoakingStop.{SoakingStop}
+use Rattle.wdf.specs.declared.soaking_stop.SoakingStop.TheVariants as soaking
 use Rattle.wdf.specs.declared.filtering_stop.FilteringStop.{FilteringStop}
 use Rattle.wdf.specs.declared.filtering_stop.FilteringStop.TheVariants as filtering
 use Rattle.wdf.specs.World.{World}
-use Rattle.wdf.specs.Statuses.{status_of_certifying, status_of_checking, status_of_reporting, status_of_beginning, status_of_filtering}
+use Rattle.wdf.specs.Statuses.{status_of_certifying, status_of_checking, status_of_reporting, status_of_beginning, status_of_filtering, status_of_soaking}
 use Rattle.wdf.specs.CertifyAnswer.{CertifyStops, RefusesCertify}
 use Rattle.wdf.specs.CheckAnswer.{CheckStops, RefusesCheck}
 use Rattle.wdf.specs.ReportAnswer.{ReportStops, RefusesReport}
 use Rattle.wdf.specs.RunAnswer.{BeginningStops, RunStops, RefusesRun}
+use Rattle.wdf.specs.SoakAnswer.{SoakStops, RefusesSoak}
 
 -- ---- `certify`
 
@@ -105,3 +109,11 @@ run_row w o (filtering.Frame (frames_.Truncated frames)) h = h
 run_row w o (filtering.Frame frames_.ReadFault) h = inr h
 run_row w o (filtering.Frame frames_.WriteFault) h = h
 run_row w o filtering.Note h = h
+
+-- ---- `soak`
+
+pub soak_row : (w : World) (o : Order) (stop : SoakingStop) → SoakStops w o stop → RefusesSoak w o (status_of_soaking stop)
+soak_row w o (soaking.Soak (soaks.PortRange side element low)) h = h
+soak_row w o (soaking.Soak (soaks.Bound side element ratio need limit)) h = h
+soak_row w o (soaking.Soak soaks.NoMemory) h = h
+soak_row w o soaking.Write h = h

@@ -9,13 +9,13 @@ use Rattle.wdf_words.specs.Orders.{order_of}
 use Rattle.wdf_stages.specs.Noting.{GainsLine}
 use Rattle.wdf_report.specs.FaultLine.{fault_line_of}
 use Rattle.wdf_report.specs.declared.status.Status.{Status}
-use Rattle.wdf_report.specs.declared.status.Status.TheVariants.{Unbuilt}
 use Rattle.wdf.specs.World.{World, IsQuiet}
 use Rattle.wdf.specs.Statuses.{status_of_usage}
 use Rattle.wdf.specs.CertifyAnswer.{DoneCertify, RefusesCertify}
 use Rattle.wdf.specs.CheckAnswer.{DoneCheck, RefusesCheck}
 use Rattle.wdf.specs.ReportAnswer.{DoneReport, RefusesReport}
 use Rattle.wdf.specs.RunAnswer.{DoneRun, RefusesRun}
+use Rattle.wdf.specs.SoakAnswer.{DoneSoak, RefusesSoak}
 
 -- this is the answer, and nothing was read, written or noted
 pub record Answers (w : World) (s answer : Status) : Type 0 where
@@ -28,7 +28,7 @@ DoesOrder Run w o = DoneRun w o
 DoesOrder Certify w o = DoneCertify w o
 DoesOrder Check w o = DoneCheck w o
 DoesOrder Report w o = DoneReport w o
-DoesOrder Soak w o = ⊥
+DoesOrder Soak w o = DoneSoak w o
 
 -- why it was not done
 abbrev pub RefusesOrder : Command → World → Order → Status → Type 0
@@ -36,7 +36,7 @@ RefusesOrder Run w o s = RefusesRun w o s
 RefusesOrder Certify w o s = RefusesCertify w o s
 RefusesOrder Check w o s = RefusesCheck w o s
 RefusesOrder Report w o s = RefusesReport w o s
-RefusesOrder Soak w o s = Answers w s (Unbuilt 1)
+RefusesOrder Soak w o s = RefusesSoak w o s
 
 -- what words did, by what they ask for
 abbrev pub DoesWords : Result Order UsageFault → World → Type 0

@@ -3,6 +3,10 @@ use Rattle.std.specs.Prelude.{◌≡◌, ℕ, List, Option, Some, Result, Ok, Er
 use Rattle.wdf_io.specs.Files.{Files}
 use Rattle.wdf_wav.specs.declared.head.Head.{Head}
 use Rattle.wdf_cert.specs.declared.certs.Certs.{Certs}
+use Rattle.wdf_lattice.specs.declared.networks.Networks.{Networks}
+use Rattle.wdf_design.specs.Designs.{IsDesigned}
+use Rattle.wdf_made.specs.Ladder.{made_netlist}
+use Rattle.wdf_soak.specs.Soaks.{usual_plan}
 use Rattle.wdf_certificates.specs.Certifying.{IsCertified}
 use Rattle.wdf_certificates.specs.CertLoading.{LoadsCerts}
 use Rattle.wdf_certificates.specs.CertChecking.{CertifiesEach}
@@ -46,6 +50,13 @@ pub record CanReport (words : List (List ℕ)) (told : Option Files) (o : Order)
   pub bounds : PlanBounds
   pub bounded : AreBounded finds.design.networks (report_plan o) bounds
 
+-- for `soak`: the ladder that is made has networks, and the plan of a run that no operand changes fits them
+pub record CanSoak (o : Order) : Type 0 where
+  pub networks : Networks
+  pub designed : IsDesigned (made_netlist o.seed o.order) usual_plan.k networks
+  pub bounds : PlanBounds
+  pub bounded : AreBounded networks usual_plan bounds
+
 -- for `run`: the input is told, begins with the head of a wave for the networks, whose plan fits them, and holds all of
 -- its frames, with no sample over amp
 pub record CanRun (words : List (List ℕ)) (told : Option Files) (left : Option (List ℕ)) (o : Order) : Type 0 where
@@ -65,7 +76,7 @@ CanDo Run words told left o = CanRun words told left o
 CanDo Certify words told left o = CanCertify words told o
 CanDo Check words told left o = CanCheck words told o
 CanDo Report words told left o = CanReport words told o
-CanDo Soak words told left o = ⊥
+CanDo Soak words told left o = CanSoak o
 
 abbrev pub CanDoWords : Result Order UsageFault → List (List ℕ) → Option Files → (left : Option (List ℕ)) → Type 0
 CanDoWords (Ok o) words told left = CanDo o.command words told left o

@@ -10,5 +10,6 @@ pub mod ReportAnswer
 pub mod RunAnswer
 pub mod RunNote
 pub mod Runs
+pub mod SoakAnswer
 pub mod Statuses
 pub mod World

@@ -16,6 +16,8 @@ use Rattle.wdf_stages.specs.declared.open_stop.OpenStop.{OpenStop}
 use Rattle.wdf_stages.specs.declared.open_stop.OpenStop.TheVariants as opens
 use Rattle.wdf_stages.specs.declared.bound_stop.BoundStop.{BoundStop}
 use Rattle.wdf_stages.specs.declared.bound_stop.BoundStop.TheVariants as bounds
+use Rattle.wdf_soak.specs.declared.soak_stop.SoakStop.{SoakStop}
+use Rattle.wdf_soak.specs.declared.soak_stop.SoakStop.TheVariants as soaks
 use Rattle.wdf_frames.specs.declared.frame_stop.FrameStop.{FrameStop}
 use Rattle.wdf_frames.specs.declared.frame_stop.FrameStop.TheVariants as frames_
 use Rattle.wdf.specs.declared.networks_stop.NetworksStop.{NetworksStop}
@@ -28,6 +30,8 @@ use Rattle.wdf.specs.declared.reporting_stop.ReportingStop.{ReportingStop}
 use Rattle.wdf.specs.declared.reporting_stop.ReportingStop.TheVariants as reporting
 use Rattle.wdf.specs.declared.beginning_stop.BeginningStop.{BeginningStop}
 use Rattle.wdf.specs.declared.beginning_stop.BeginningStop.TheVariants as beginning
+use Rattle.wdf.specs.declared.soaking_stop.SoakingStop.{SoakingStop}
+use Rattle.wdf.specs.declared.soaking_stop.SoakingStop.TheVariants as soaking
 use Rattle.wdf.specs.declared.filtering_stop.FilteringStop.{FilteringStop}
 use Rattle.wdf.specs.declared.filtering_stop.FilteringStop.TheVariants as filtering
 
@@ -115,3 +119,14 @@ abbrev pub status_of_filtering : FilteringStop → Status
 status_of_filtering (filtering.Begin stop) = status_of_beginning stop
 status_of_filtering (filtering.Frame stop) = status_of_frame stop
 status_of_filtering filtering.Note = NoteFault
+
+-- ---- the command `soak`
+
+abbrev pub status_of_soak : SoakStop → Status
+status_of_soak (soaks.PortRange side element low) = PortRange side element low
+status_of_soak (soaks.Bound side element ratio need limit) = Bound side element ratio need limit
+status_of_soak soaks.NoMemory = NoMemory
+
+abbrev pub status_of_soaking : SoakingStop → Status
+status_of_soaking (soaking.Soak stop) = status_of_soak stop
+status_of_soaking soaking.Write = WriteFault

@@ -3,21 +3,24 @@
 ghost use Rattle.std.specs.Prelude.{◌≡◌, ◌≢◌, ◌≤◌, List, ℕ, OnOk, IfErr, IsErrOf};
 ghost use Rattle.std.specs.declared.option.Option.{Option};
 ghost use Rattle.wdf_io.specs.Causes.{Rose};
+ghost use Rattle.wdf_io.specs.Files.{Files};
 ghost use Rattle.wdf_words.specs.Orders.{HasRanges, IsFileNamed, texts};
 ghost use Rattle.wdf.specs.CertifyAnswer.{DoneCertify, RefusesCertify};
 ghost use Rattle.wdf.specs.CheckAnswer.{DoneCheck, RefusesCheck};
 ghost use Rattle.wdf.specs.ReportAnswer.{DoneReport, RefusesReport};
 ghost use Rattle.wdf.specs.RunAnswer.{DoneRun, RefusesRun};
+ghost use Rattle.wdf.specs.SoakAnswer.{DoneSoak, RefusesSoak};
 ghost use Rattle.wdf.specs.World.{world};
 
 use crate::certifying::certify_words;
 use crate::checking::check_words;
 use crate::filtering::filter_words;
 use crate::reporting::report_words;
+use crate::soaking::soak_order;
 use std::alloc::Global;
 use wdf_io::{Shelf, Sink, Source};
 use wdf_report::Status;
-use wdf_words::Order;
+use wdf_words::{Command, Order};
 
 /// Does the command `run`.
 pub fn do_run<H: Shelf, I: Source, O: Sink, N: Sink>(
@@ -113,6 +116,22 @@ pub fn do_check<H: Shelf, O: Sink>(
     ensures write_fault { IsErrOf result Status.WriteFault → Rose (O.faults out.old) (O.faults out.new) }
 {
     match check_words(alloc, words, order, shelf, out) {
+        Ok(()) => Ok(()),
+        Err(stop) => Err(Status::from(stop)),
+    }
+}
+
+/// Does the command `soak`.
+pub fn do_soak<O: Sink>(alloc: Global, order: &Order, out: &mut O) -> Result<(), Status>
+    requires ranges { HasRanges order.now }
+    requires asked { order.now.command ≡ Command.Soak }
+    ensures done { (words : List (List ℕ)) (files : Option Files) (left noted : Option (List ℕ)) → OnOk result
+        (DoneSoak (world words files left left (O.written out.old) (O.written out.new) noted noted) order.now) }
+    ensures refused { (words : List (List ℕ)) (files : Option Files) (left noted : Option (List ℕ)) → IfErr result
+        (RefusesSoak (world words files left left (O.written out.old) (O.written out.new) noted noted) order.now) }
+    ensures write_fault { IsErrOf result Status.WriteFault → Rose (O.faults out.old) (O.faults out.new) }
+{
+    match soak_order(alloc, order, out) {
         Ok(()) => Ok(()),
         Err(stop) => Err(Status::from(stop)),
     }

@@ -23,6 +23,8 @@ mod noting;
 mod reporting;
 mod reporting_stop;
 mod run;
+mod soaking;
+mod soaking_stop;
 mod statuses;
 #[cfg(test)]
 mod tests;
@@ -35,6 +37,7 @@ use designed::Designed;
 use filtering_stop::FilteringStop;
 use networks_stop::NetworksStop;
 use reporting_stop::ReportingStop;
+use soaking_stop::SoakingStop;
 use std::env;
 use std::io::ErrorKind;
 use std::process::ExitCode;

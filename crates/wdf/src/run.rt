@@ -11,7 +11,7 @@ ghost use Rattle.wdf.specs.Filtered.{AsksRun, HasRun};
 ghost use Rattle.wdf.specs.Runs.{KeepCertified, KeepEnergy, KeepKirchhoff, KeepWords};
 ghost use Rattle.wdf.specs.World.{world};
 
-use crate::commands::{do_certify, do_check, do_report, do_run};
+use crate::commands::{do_certify, do_check, do_report, do_run, do_soak};
 use crate::laws::completeness;
 use crate::statuses::usage_status;
 use std::alloc::Global;
@@ -49,7 +49,7 @@ fn perform<H: Shelf, I: Source, O: Sink, N: Sink>(
         Command::Certify => do_certify(alloc, words, order, shelf, out),
         Command::Check => do_check(alloc, words, order, shelf, out),
         Command::Report => do_report(alloc, words, order, shelf, out),
-        Command::Soak => Err(Status::Unbuilt { part: 1 }),
+        Command::Soak => do_soak(alloc, order, out),
     }
 }
 
@@ -87,7 +87,8 @@ fn attempt<H: Shelf, I: Source, O: Sink, N: Sink>(
 /// and writes the wave of its load to `out`; on `note` it tells the report of the netlist, what was
 /// limited and where the energy went. `report net=FILE` writes what the netlist becomes,
 /// `certify net=FILE` the certificates of its networks, and `check net=FILE cert=FILE` writes `accepted`
-/// where a file's certificates certify them; these leave the input as it is. `soak` is not built yet.
+/// where a file's certificates certify them. `soak seed=N order=K frames=M` writes the summary of a run on
+/// a ladder and a wave that it makes. These four leave the input as it is.
 ///
 /// Every answer other than `Done` tries its fault line on the note.
 #[tactic(auto, using(crate::proofs::DoneLemmas::kept_kirchhoff, crate::proofs::DoneLemmas::kept_energy, crate::proofs::DoneLemmas::kept_words, crate::proofs::DoneLemmas::kept_certified))]

@@ -1,14 +1,16 @@
 //! The answers that the stops of commands become.
 
 ghost use Rattle.std.specs.Prelude.{◌≡◌};
-ghost use Rattle.wdf.specs.Statuses.{status_of_beginning, status_of_bound, status_of_certify, status_of_certifying, status_of_check, status_of_checking, status_of_design, status_of_filtering, status_of_frame, status_of_load, status_of_netlist, status_of_networks, status_of_open, status_of_reporting, status_of_usage};
+ghost use Rattle.wdf.specs.Statuses.{status_of_beginning, status_of_bound, status_of_certify, status_of_certifying, status_of_check, status_of_checking, status_of_design, status_of_filtering, status_of_frame, status_of_load, status_of_netlist, status_of_networks, status_of_open, status_of_reporting, status_of_soak, status_of_soaking, status_of_usage};
 
 use crate::{
     BeginningStop, CertifyingStop, CheckingStop, FilteringStop, NetworksStop, ReportingStop,
+    SoakingStop,
 };
 use wdf_certificates::{CertifyStop, CheckStop, LoadStop};
 use wdf_frames::FrameStop;
 use wdf_report::Status;
+use wdf_soak::SoakStop;
 use wdf_stages::{BoundStop, DesignStop, NetlistStop, OpenStop};
 use wdf_words::UsageFault;
 
@@ -208,6 +210,39 @@ impl From<FilteringStop> for Status {
             FilteringStop::Begin(stop) => beginning_status(stop),
             FilteringStop::Frame(stop) => frame_status(stop),
             FilteringStop::Note => Status::NoteFault,
+        }
+    }
+}
+
+fn soak_status(stop: SoakStop) -> Status
+    ensures { result ≡ status_of_soak stop }
+{
+    match stop {
+        SoakStop::PortRange { side, element, low } => Status::PortRange { side, element, low },
+        SoakStop::Bound {
+            side,
+            element,
+            ratio,
+            need,
+            limit,
+        } => Status::Bound {
+            side,
+            element,
+            ratio,
+            need,
+            limit,
+        },
+        SoakStop::NoMemory => Status::NoMemory,
+    }
+}
+
+impl From<SoakingStop> for Status {
+    ghost from_gives = { λ stop s. s ≡ status_of_soaking stop };
+
+    fn from(stop: SoakingStop) -> Self {
+        match stop {
+            SoakingStop::Soak(stop) => soak_status(stop),
+            SoakingStop::Write => Status::WriteFault,
         }
     }
 }

@@ -11,5 +11,6 @@ mod failing;
 mod ladder;
 mod refusals;
 mod reports;
+mod soaks;
 mod streaming;
 mod waves;

@@ -84,7 +84,6 @@ others =
     ∷ (answers.NoteFault, codes "wdf: 16 note fault\n")
     ∷ (answers.LoadFault, codes "wdf: 17 load fault\n")
     ∷ (answers.NoMemory, codes "wdf: 20 no memory\n")
-    ∷ (answers.Unbuilt 2, codes "wdf: 21 unbuilt part 2\n")
     ∷ []
 
 others_lines : lines others ≡ ended others

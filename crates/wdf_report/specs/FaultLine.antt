@@ -22,7 +22,6 @@
 --   wdf: 18 missing word W
 --   wdf: 19 file too large word W
 --   wdf: 20 no memory
---   wdf: 21 unbuilt part P
 --   wdf: 23 channels have A want B
 use Rattle.std.specs.Prelude.{◌≢◌, ℕ, if◌then◌else◌, ◌==◌, List, [], ◌∷◌, ◌++◌, length, Option, None, Some, codes, decimal}
 use Rattle.std.specs.Fmt.{signed_decimal}
@@ -86,7 +85,6 @@ fault_text answers.LoadFault = codes "load fault"
 fault_text (answers.Missing word) = codes "missing word " ++ decimal word
 fault_text (answers.FileTooLarge word) = codes "file too large word " ++ decimal word
 fault_text answers.NoMemory = codes "no memory"
-fault_text (answers.Unbuilt part) = codes "unbuilt part " ++ decimal part
 fault_text (answers.ChannelCount have want) = codes "channels have " ++ decimal have ++ codes " want " ++ decimal want
 
 -- ---- the line

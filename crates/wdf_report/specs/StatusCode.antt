@@ -25,5 +25,4 @@ code_of answers.LoadFault = 17
 code_of (answers.Missing _) = 18
 code_of (answers.FileTooLarge _) = 19
 code_of answers.NoMemory = 20
-code_of (answers.Unbuilt _) = 21
 code_of (answers.ChannelCount _ _) = 23

@@ -265,14 +265,6 @@ fn push_large(line: &mut Line, word: usize)
     push_number(line, b"file too large word ", word as u64);
 }
 
-fn push_part(line: &mut Line, part: u8)
-    requires room { length line.old + 120 ≤ MAX_LINE }
-    ensures text { line.new ≡ line.old ++ fault_text (Status.Unbuilt part) }
-    ensures short { length line.new ≤ length line.old + 120 }
-{
-    push_number(line, b"unbuilt part ", u64::from(part));
-}
-
 fn push_channels(line: &mut Line, have: u16, want: u16)
     requires room { length line.old + 120 ≤ MAX_LINE }
     ensures text { line.new ≡ line.old ++ fault_text (Status.ChannelCount have want) }
@@ -324,7 +316,6 @@ fn push_text(line: &mut Line, status: &Status)
         Status::Missing { word } => push_missing(line, *word),
         Status::FileTooLarge { word } => push_large(line, *word),
         Status::NoMemory => line.push(b"no memory"),
-        Status::Unbuilt { part } => push_part(line, *part),
         Status::ChannelCount { have, want } => push_channels(line, *have, *want),
     }
 }

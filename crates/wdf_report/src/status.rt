@@ -108,10 +108,6 @@ pub enum Status {
     },
     /// There was no memory.
     NoMemory,
-    /// What was asked for is not built yet.
-    Unbuilt {
-        part: u8,
-    },
     /// The netlist has `want` sources, more than one, and the input has `have` channels.
     ChannelCount {
         have: u16,
@@ -146,7 +142,6 @@ impl Status {
             Status::Missing { .. } => 18,
             Status::FileTooLarge { .. } => 19,
             Status::NoMemory => 20,
-            Status::Unbuilt { .. } => 21,
             Status::ChannelCount { .. } => 23,
         }
     }

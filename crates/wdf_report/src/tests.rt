@@ -224,6 +224,4 @@ fn a_failure_is_told(rt: HostRuntime) {
     let large = Status::FileTooLarge { word: 1 };
     says(&rt, &large, "wdf: 19 file too large word 1\n");
     says(&rt, &Status::NoMemory, "wdf: 20 no memory\n");
-    let part = Status::Unbuilt { part: 2 };
-    says(&rt, &part, "wdf: 21 unbuilt part 2\n");
 }

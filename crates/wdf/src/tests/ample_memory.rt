@@ -4,7 +4,7 @@ use super::calls::{Case, SOUND, is_answered};
 use super::circuits::{CERTIFICATE, DIVIDER, FOUR, LOW_PASS, REPORT};
 use std::test::Fail;
 
-// A call of each command that is built.
+// A call of each command on a netlist; `soaks` has those of `soak`.
 static CALLS: [Case<'static>; 4] = [
     Case {
         words: "run|net=N",

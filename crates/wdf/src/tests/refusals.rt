@@ -232,13 +232,13 @@ static REFUSED: [Case<'static>; 26] = [
         line: "wdf: 5 bound element S word need 4503599627370496 limit 17592186044416\n",
     },
     Case {
-        words: "soak|seed=1|order=5|frames=1000",
+        words: "soak|seed=1|order=5",
         netlist: DIVIDER,
         certificate: b"",
         input: &FOUR,
-        code: 21,
+        code: 1,
         out: b"",
-        line: "wdf: 21 unbuilt part 1\n",
+        line: "wdf: 1 usage word 3 MissingOperand\n",
     },
 ];
 

@@ -96,7 +96,7 @@ static WAVES: [Case<'static>; 18] = [
         input: b"RIFFB\0\0\0WAVEfmt \x10\0\0\0\x01\0\x05\0P\xc3\0\0 \xa1\x07\0\n\0\x10\0data\x1e\0\0\0\0@\0\xc0\0\0\0\0\0@\0\0\0\0\0\0\0\0\0\0\0\0\0\0\0\0\0\0\0\0",
         code: 0,
         out: b"RIFFB\0\0\0WAVEfmt \x10\0\0\0\x01\0\x05\0P\xc3\0\0 \xa1\x07\0\n\0\x10\0data\x1e\0\0\0\xaa*V\xd5\0\0\0\0\xaa*q\x1c\x8f\xe3\0\0\0\0q\x1c\x86\xf6z\x09\0\0\0\0\x86\xf6",
-        line: "",
+        line: "frames 3\nclipped 0\nchannel 0 incident 268435456 absorbed 266936716 stored 1473930\nchannel 1 incident 268435456 absorbed 266936716 stored 1473930\nchannel 2 incident 0 absorbed 0 stored 0\nchannel 3 incident 0 absorbed 0 stored 0\nchannel 4 incident 268435456 absorbed 266936716 stored 1473930\n",
     },
     Case {
         words: "run|net=N|guard=0",
@@ -105,7 +105,7 @@ static WAVES: [Case<'static>; 18] = [
         input: b"RIFF,\0\0\0WAVEfmt \x10\0\0\0\x01\0\x02\0\x80\xbb\0\0\0\xee\x02\0\x04\0\x10\0data\x08\0\0\0\xb8\x0bp\x17\x03\0\xfd\xff",
         code: 0,
         out: b"RIFF(\0\0\0WAVEfmt \x10\0\0\0\x01\0\x01\0\x80\xbb\0\0\0w\x01\0\x02\0\x10\0data\x04\0\0\0p\x17\0\0",
-        line: "",
+        line: "frames 2\nclipped 0\nchannel 0 incident 45000018 absorbed 22500621 stored 0\n",
     },
     Case {
         words: "run|net=N",
