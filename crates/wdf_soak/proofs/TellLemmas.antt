@@ -28,7 +28,7 @@ pub head_long : (s : Setting) (body wave : List ℕ) → IsWritten s body wave �
 head_long s body wave h =
     let header = head_bytes_of (written_head s) in
     let samples = coded s h.result.waves in
-    let pad = replicate (pad_size (written_head s)) 0 in
+    let pad : List ℕ = replicate (pad_size (written_head s)) 0 in
     omega (arith, ap length h.padded, ap length h.result.parts, length-append h.unpadded pad, length-append header samples, header_long (written_head s))
 
 -- ---- the totals of its one run
@@ -36,7 +36,7 @@ head_long s body wave h =
 one_run : (ns : Networks) → run_count ns 1 ≡ 1
 one_run ns = by (sources_driven ns == 1)
   where
-    by : (t : Bool) → (if t then 1 else 1) ≡ 1
+    by : (t : Bool) → ◌≡◌ {A = ℕ} (if t then 1 else 1) 1
     by true = refl
     by false = refl
 
