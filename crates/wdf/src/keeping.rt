@@ -20,11 +20,7 @@ use wdf_wav::laws::data_append;
 fn no_return(net: &Net)
     ensures { RulesOutReturns net.now }
 {
-    net.rules();
-    wdf_law::laws::ports(net);
-    wdf_law::laws::one_step(net);
-    energy(net);
-    wdf_residue::laws::left_inverse();
+    wdf_check::laws::no_return(net);
 }
 
 // The laws of each network.

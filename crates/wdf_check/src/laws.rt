@@ -1,7 +1,7 @@
 //! What a certificate implies: each function is a law, whose contract is proved and whose body only
 //! calls laws of the crates below.
 ghost use Rattle.std.specs.Prelude.{ℕ, List};
-ghost use Rattle.wdf_check.specs.Certificate.{Certifies, Obstructs};
+ghost use Rattle.wdf_check.specs.Certificate.{Certificate, Certifies, Obstructs};
 ghost use Rattle.wdf_check.specs.Laws.{HasOneCheck, HasResidues};
 ghost use Rattle.wdf_check.specs.Returning.{NeverReturns};
 
@@ -9,13 +9,12 @@ use crate::Cert;
 use wdf_law::Net;
 pub use wdf_residue::laws::inverse;
 
-/// Where a certificate certifies the network, no state within the words of its plan returns without
-/// input but rest; to stay in a state is to return to it.
+/// Where any certificate certifies the network, be it at hand or not, no state within the words of its
+/// plan returns without input but rest; to stay in a state is to return to it.
 ///
 /// It does not need that P is prime.
-pub fn no_return(net: &Net, cert: &Cert)
-    requires { Certifies net.now cert.now }
-    ensures { NeverReturns net.now }
+pub fn no_return(net: &Net)
+    ensures { (c : Certificate) → Certifies net.now c → NeverReturns net.now }
 {
     net.rules();
     wdf_law::laws::numbers(net);

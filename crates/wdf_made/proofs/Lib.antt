@@ -1,4 +1,8 @@
+pub mod AlikeLemmas
 pub mod LadderLemmas
 pub mod OrderLemmas
+pub mod TextLemmas
+mod TextTests
+pub mod UnitLemmas
 pub mod ValueLemmas
 pub mod WordLemmas

@@ -1,13 +1,5 @@
--- The ladder that is made for a seed and an order. Its text is, with one element for each i from 1 to the order:
---
---   rate 48000
---   source S n0 0 600
---   c Ei nJ 0 Vn           where i is odd: J = (i - 1) / 2, and V = 1 + w mod 999
---   l Ei nJ nK Vm          where i is even: J = i / 2 - 1 and K = i / 2, and V = 1 + w mod 99
---   r L nJ 0 600           J = order / 2
---   load L
---
--- with w the word i - 1 of the seed's generator. Here its netlist is told as a value, of which that text is one text.
+-- The ladder that is made for a seed and an order, as the value of its netlist. Its text is that of `LadderText`, which
+-- stands for this value and for no other: `text_stands` of `src/laws.rt`.
 use Rattle.std.specs.Prelude.{ℕ, ℤ, pos, negsuc, ◌+ℤ◌, ◌+◌, ◌/◌, ◌%◌, ◌==◌, Bool, if◌then◌else◌, List, [], ◌∷◌, ◌++◌, map, codes, decimal}
 use Rattle.std.specs.List.{range_with_len}
 use Rattle.wdf_text.specs.DecimalNumber.{DecimalNumber}

@@ -2,8 +2,8 @@
 //!
 //! [`made_netlist`] gives the ladder of an order, [`made_head`] and [`made_data`] the wave of a number
 //! of frames. The words are those of `Lcg64Xsh32::new(seed, 1)` of `rand_pcg`: first one for each
-//! element of the ladder between its source and its load, then one for each sample. `specs/Ladder` and
-//! `specs/Wave` say what is made of them.
+//! element of the ladder between its source and its load, then one for each sample. `specs/LadderText`,
+//! `specs/Ladder` and `specs/Wave` say what is made of them.
 #![tactic(auto)]
 
 mod elements;
