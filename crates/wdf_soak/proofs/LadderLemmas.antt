@@ -1,22 +1,30 @@
--- The made ladder has no core.
-use Rattle.std.proofs.Common.{◌≡◌, ℕ, Bool, List, Option, Some, None, Result, Ok, Err, refl, sym, ap, ◌∙◌}
+-- The made ladder has no core, and a soak the refusals of its stages.
+use Rattle.std.proofs.Common.{◌≡◌, ℕ, Bool, List, Option, Some, None, Result, Ok, Err, refl, sym, ap, ◌∙◌, subst}
 use Rattle.std.specs.Prelude.{ok_or, IsSome}
 use Rattle.wdf_law.specs.declared.side.Side.{Side}
 use Rattle.wdf_law.specs.declared.side.Side.TheVariants.{Whole}
 use Rattle.wdf_law.specs.Network.{Network}
 use Rattle.wdf_law.specs.Outline.{Outline}
 use Rattle.wdf_netlist.specs.Circuits.{CircuitValue}
+use Rattle.wdf_netlist.specs.Netlists.{NetlistValue}
 use Rattle.wdf_netlist.specs.declared.form.Form.TheVariants.{Ladder as One}
 use Rattle.wdf_sp.specs.Reduction.{Arc}
+use Rattle.wdf_bounds.specs.Plans.{PlanOf}
 use Rattle.wdf_lattice.specs.declared.networks.Networks.{Networks}
 use Rattle.wdf_lattice.specs.declared.networks.Networks.TheVariants.{Ladder, Lattice}
 use Rattle.wdf_lattice.specs.Sides.{network_at}
 use Rattle.wdf_design.specs.declared.design_fault.DesignFault.{DesignFault}
 use Rattle.wdf_design.specs.declared.design_fault.DesignFault.TheVariants.{Core, Range}
-use Rattle.wdf_design.specs.Designs.{core_of, design_of, first_out_of_range, network_of, network_with, trees_of, unless_out_of_range, with_value}
+use Rattle.wdf_design.specs.Designs.{IsDesigned, core_of, design_of, first_out_of_range, network_of, network_with, trees_of, unless_out_of_range, with_value}
 use Rattle.wdf_design.specs.Realising.{RealisesEach}
 use Rattle.wdf_made.specs.Ladder.{circuit_with, made_netlist, made_value}
+use Rattle.wdf_stages.specs.declared.bound_stop.BoundStop.{BoundStop}
+use Rattle.wdf_stages.specs.declared.bound_stop.BoundStop.TheVariants as bounds
+use Rattle.wdf_stages.specs.Bounding.{BoundRefuses}
 use Rattle.wdf_made.specs.LadderLaws.{HasShape}
+use Rattle.wdf_soak.specs.declared.soak_stop.SoakStop.{SoakStop}
+use Rattle.wdf_soak.specs.declared.soak_stop.SoakStop.TheVariants.{PortRange, Bound, NoMemory}
+use Rattle.wdf_soak.specs.Soaks.{LadderRefuses, SoakRefuses, WordsRefuse, stop_of_words, usual_plan}
 
 -- a ratio out of range is no core
 ranged : (side : Side) (first : Option (ℕ × Bool)) (n : Network) (at : Side) (element : ℕ) (core : List Arc)
@@ -35,3 +43,21 @@ no_core seed order k side element core (t, has) e =
 pub is_whole : (k : ℕ) (c : CircuitValue) (ns : Networks) → RealisesEach k (One c) ns → IsSome (network_at ns Whole)
 is_whole k c (Ladder n) r = refl
 is_whole k c (Lattice a b) r = absurd r
+
+-- why the plan does not fit
+pub words_told : (n : NetlistValue) (ns : Networks) (plan : PlanOf) (stop : BoundStop) → plan ≡ usual_plan → BoundRefuses n.form ns plan stop → WordsRefuse n ns (stop_of_words stop)
+words_told n ns plan (bounds.Bound side name ratio need limit) same h =
+    subst (λ (p : PlanOf). BoundRefuses n.form ns p (bounds.Bound side name ratio need limit)) same h
+words_told n ns plan bounds.NoMemory same h = tt
+
+-- what refuses a stage refuses the soak
+pub ladder_refuses : (seed order : ℕ) (stop : SoakStop) → LadderRefuses (made_netlist seed order) stop → SoakRefuses seed order stop
+ladder_refuses seed order (PortRange side name low) h = h
+ladder_refuses seed order (Bound side name ratio need limit) h = absurd h
+ladder_refuses seed order NoMemory h = tt
+
+pub words_refuse : (seed order : ℕ) (ns : Networks) (stop : SoakStop) → IsDesigned (made_netlist seed order) usual_plan.k ns → WordsRefuse (made_netlist seed order) ns stop
+    → SoakRefuses seed order stop
+words_refuse seed order ns (PortRange side name low) designed h = absurd h
+words_refuse seed order ns (Bound side name ratio need limit) designed h = (ns, designed, h)
+words_refuse seed order ns NoMemory designed h = tt

@@ -10,7 +10,9 @@ use Rattle.wdf_lattice.specs.Sides.{network_at, run_count, sources_driven}
 use Rattle.wdf_wav.specs.declared.head.Head.{Head}
 use Rattle.wdf_wav.specs.Header.{head_bytes_of, pad_size}
 use Rattle.wdf_frames.specs.Setting.{Setting, runs_of, written_head}
+use Rattle.wdf_frames.specs.declared.wave_run.WaveRun.{WaveRun}
 use Rattle.wdf_frames.specs.RunFacts.{TellsRun}
+use Rattle.wdf_frames.specs.RunStates.{IsReady, setting_of}
 use Rattle.wdf_frames.specs.Written.{IsWritten, coded}
 use Rattle.wdf_reporting.specs.Findings.{IsFinding}
 use Rattle.wdf_made.specs.Wave.{made_data}
@@ -27,16 +29,16 @@ header_long head = refl
 pub head_long : (s : Setting) (body wave : List ℕ) → IsWritten s body wave → 44 ≤ length wave
 head_long s body wave h =
     let header = head_bytes_of (written_head s) in
-    let data = coded s h.result.waves in
-    let pad = replicate (pad_size (written_head s)) 0 in
-    omega (arith, ap length h.padded, ap length h.result.parts, length-append h.unpadded pad, length-append header data, header_long (written_head s))
+    let samples = coded s h.result.waves in
+    let pad : List ℕ = replicate (pad_size (written_head s)) 0 in
+    omega (arith, ap length h.padded, ap length h.result.parts, length-append h.unpadded pad, length-append header samples, header_long (written_head s))
 
 -- ---- the totals of its one run
 
 one_run : (ns : Networks) → run_count ns 1 ≡ 1
 one_run ns = by (sources_driven ns == 1)
   where
-    by : (t : Bool) → (if t then 1 else 1) ≡ 1
+    by : (t : Bool) → ◌≡◌ {A = ℕ} (if t then 1 else 1) 1
     by true = refl
     by false = refl
 
@@ -78,3 +80,11 @@ is_summary seed order frames ns certified s wave clipped ledger n totals text se
       account = account;
       summary = summary;
     }
+
+-- ---- a run and its networks
+
+pub ready_again : (ns : Networks) (frames : ℕ) (run : WaveRun) → IsReady (made_setting ns frames) run → IsReady (made_setting (setting_of run).networks frames) run
+ready_again ns frames run h = subst (λ (m : Networks). IsReady (made_setting m frames) run) (sym (ap (λ (s : Setting). s.networks) h.set)) h
+
+pub set_again : (ns : Networks) (frames : ℕ) (s : Setting) → s ≡ made_setting ns frames → s ≡ made_setting s.networks frames
+set_again ns frames s h = h ∙ ap (λ (x : Setting). made_setting x.networks frames) (sym h)

@@ -4,6 +4,7 @@ use Rattle.std.specs.Prelude.{ℤ, pos, ◌-ℤ◌, unsigned_abs, nat_lt, All}
 use Rattle.std.proofs.lemmas.Bool.Decides.{nat_tests}
 use Rattle.std.proofs.lemmas.List.Elements.{All-nil, All-cons}
 use Rattle.std.proofs.lemmas.List.FromFn.{length-map-range_with_len}
+use Rattle.byteorder.specs.Endian.{little_bytes, little_number}
 use Rattle.wdf_lattice.specs.declared.networks.Networks.{Networks}
 use Rattle.wdf_wav.specs.Header.{IsPcmHead}
 use Rattle.wdf_wav.specs.Laws.{CodesOneSample, CountsBytes, DataAppends, HoldsOneSample, SamplesAppend}
@@ -24,12 +25,18 @@ value_small code few true e = grind (arith, nat_tests)
 value_small code few false e = grind (arith, nat_tests)
 
 -- two bytes are a code of 16 bits
+byte_small : (n : ℕ) → n % 256 < 256
+byte_small n = omega arith
+
+two_small : (low high : ℕ) → low < 256 → high < 256 → low + 256 * (high + 256 * 0) < 65536
+two_small low high l h = omega arith
+
 coding_small : (z : ℤ) → IsSmall (sample_value 16 (sample_coding 16 z))
 unfolding sample_value sample_coding
 coding_small z =
     let n = code_of_value 16 z in
-    let code = n % 256 + 256 * (n / 256 % 256) in
-    value_small code (omega arith) (nat_lt code 32768) refl
+    let code = little_number 2 (little_bytes 2 n) in
+    value_small code (two_small (n % 256) (n / 256 ^ 1 % 256) (byte_small n) (byte_small (n / 256 ^ 1))) (nat_lt code 32768) refl
 
 samples_small : SamplesAppend 16 → HoldsOneSample 16 → DataAppends 16 → CodesOneSample 16 → CountsBytes 16 → (zs : List ℤ) → All IsSmall (samples_of 16 (data_of 16 zs))
 samples_small append holds appends codes counts [] = All-nil IsSmall

@@ -8,6 +8,7 @@ use Rattle.wdf_bounds.specs.Plans.{PlanOf, plan_of}
 use Rattle.wdf_lattice.specs.declared.networks.Networks.{Networks}
 use Rattle.wdf_lattice.specs.Sides.{network_at}
 use Rattle.wdf_design.specs.Designs.{IsDesigned}
+use Rattle.wdf_stages.specs.declared.bound_stop.BoundStop.{BoundStop}
 use Rattle.wdf_stages.specs.declared.bound_stop.BoundStop.TheVariants as bounds
 use Rattle.wdf_stages.specs.declared.design_stop.DesignStop.TheVariants as designs
 use Rattle.wdf_stages.specs.declared.plan_bounds.PlanBounds.{PlanBounds}
@@ -71,6 +72,10 @@ abbrev pub LadderRefuses : NetlistValue → SoakStop → Type 0
 LadderRefuses n (PortRange side name low) = DesignRefuses n usual_plan.k (designs.PortRange side name low)
 LadderRefuses n (Bound side name ratio need limit) = ⊥
 LadderRefuses n NoMemory = ⊤
+
+abbrev pub stop_of_words : BoundStop → SoakStop
+stop_of_words (bounds.Bound side name ratio need limit) = Bound side name ratio need limit
+stop_of_words bounds.NoMemory = NoMemory
 
 abbrev pub WordsRefuse : NetlistValue → Networks → SoakStop → Type 0
 WordsRefuse n ns (PortRange side name low) = ⊥

@@ -5,7 +5,6 @@ ghost use Rattle.wdf_soak.specs.SoakLaws.{HasOneSoak};
 
 /// A seed, an order and frames leave one answer to a soak but for want of memory: one summary or one
 /// refusal, and not both.
-#[tactic(auto, using(crate::proofs::OneSoak::one_soak))]
 pub fn one_soak()
     ensures { HasOneSoak }
 {

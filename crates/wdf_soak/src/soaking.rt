@@ -7,13 +7,14 @@ ghost use Rattle.wdf_design.specs.Realising.{RealisesEach};
 ghost use Rattle.wdf_lattice.specs.Runners.{DriveAll, FitsEach};
 ghost use Rattle.wdf_lattice.specs.Sides.{network_at, run_count, sources_driven};
 ghost use Rattle.wdf_stages.specs.Bounding.{AreBounded};
+ghost use Rattle.wdf_stages.specs.Designing.{DesignRefuses};
 ghost use Rattle.wdf_frames.specs.RunFacts.{TellsRun};
 ghost use Rattle.wdf_frames.specs.RunStates.{limited_by, setting_of, totals_by};
 ghost use Rattle.wdf_frames.specs.Written.{IsWritten};
 ghost use Rattle.wdf_made.specs.Ladder.{made_netlist};
 ghost use Rattle.wdf_made.specs.Wave.{made_data};
 ghost use Rattle.wdf_made.specs.declared.TheConstants.{MAX_FRAMES, MAX_ORDER};
-ghost use Rattle.wdf_soak.specs.Soaks.{HasFinding, IsSoaked, IsSummary, LadderRefuses, SoakRefuses, WordsRefuse, made_setting, usual_plan};
+ghost use Rattle.wdf_soak.specs.Soaks.{HasFinding, IsSoaked, IsSummary, LadderRefuses, SoakRefuses, WordsRefuse, made_setting, stop_of_words, usual_plan};
 
 use crate::figures::figures_in;
 use crate::running::{begin_run, write_wave};
@@ -37,8 +38,24 @@ fn usual_plan() -> Plan
     Plan::new(14, 4, 0, 67_108_864, 32_768, 16).unwrap()
 }
 
+// Why the ladder of a seed and an order has no networks; it has no core.
+#[tactic(auto, using(crate::proofs::LadderLemmas::no_core))]
+fn ladder_stop(seed: u64, order: u8, stop: DesignStop) -> SoakStop
+    requires some { 1 ≤ order }
+    requires few { order ≤ MAX_ORDER }
+    requires refused { DesignRefuses (made_netlist seed order) usual_plan.k stop }
+    ensures { LadderRefuses (made_netlist seed order) result }
+{
+    one_edge(seed, order);
+    match stop {
+        DesignStop::PortRange { side, element, low } => SoakStop::PortRange { side, element, low },
+        DesignStop::NoMemory => SoakStop::NoMemory,
+        DesignStop::NotSeriesParallel { .. } => unreachable!(),
+    }
+}
+
 // The networks of the ladder of a seed and an order, which is series-parallel.
-#[tactic(auto, using(crate::proofs::LadderLemmas::no_core, crate::proofs::LadderLemmas::is_whole))]
+#[tactic(auto, using(crate::proofs::LadderLemmas::is_whole))]
 fn design_ladder(
     alloc: Global,
     seed: u64,
@@ -55,19 +72,37 @@ fn design_ladder(
     ensures source { IfOk result (λ ns. sources_driven ns ≡ 1) }
     ensures driven { IfOk result (λ ns. (channels : ℕ) → DriveAll ns (run_count ns channels)) }
 {
-    one_edge(seed, order);
     one_source(seed, order);
     match design_networks(alloc, netlist, 14) {
         Ok(networks) => Ok(networks),
-        Err(DesignStop::PortRange { side, element, low }) => {
-            Err(SoakStop::PortRange { side, element, low })
-        }
-        Err(DesignStop::NoMemory) => Err(SoakStop::NoMemory),
-        Err(DesignStop::NotSeriesParallel { .. }) => unreachable!(),
+        Err(stop) => Err(ladder_stop(seed, order, stop)),
+    }
+}
+
+// Why the plan does not fit its network.
+fn words_stop(stop: BoundStop) -> SoakStop
+    ensures { result ≡ stop_of_words stop }
+{
+    match stop {
+        BoundStop::Bound {
+            side,
+            element,
+            ratio,
+            need,
+            limit,
+        } => SoakStop::Bound {
+            side,
+            element,
+            ratio,
+            need,
+            limit,
+        },
+        BoundStop::NoMemory => SoakStop::NoMemory,
     }
 }
 
 // The bounds of their words, which the plan fits.
+#[tactic(auto, using(crate::proofs::LadderLemmas::words_told))]
 fn bound_ladder(
     alloc: Global,
     netlist: &Netlist,
@@ -82,22 +117,7 @@ fn bound_ladder(
 {
     match bound_words(alloc, netlist, networks, plan) {
         Ok(words) => Ok(words),
-        Err(
-            BoundStop::Bound {
-                side,
-                element,
-                ratio,
-                need,
-                limit,
-            },
-        ) => Err(SoakStop::Bound {
-            side,
-            element,
-            ratio,
-            need,
-            limit,
-        }),
-        Err(BoundStop::NoMemory) => Err(SoakStop::NoMemory),
+        Err(stop) => Err(words_stop(stop)),
     }
 }
 

@@ -18,7 +18,7 @@ returns-in_err-put_all-clause-refused g c words files left noted =
     subst (λ r. IfErr r (SoakStops (world words files left left old now noted noted) c.args.order.now)) (sym same)
     (record {
       text = c.in_ok-text.text.items;
-      soaked = c.in_ok-text.ensures;
+      soaked = c.in_ok-text.ensures.soaked;
       input = Keeps-refl left;
       output = subst (AppendsPart old now) c.deref.ensures.value c.in_err-put_all.ensures.part;
       note = Keeps-refl noted;
@@ -31,7 +31,7 @@ returns-clause-done g c words files left noted =
     let now = g.O.Sink.written c.put_all.new.sink in
     record {
       text = c.in_ok-text.text.items;
-      soaked = c.in_ok-text.ensures;
+      soaked = c.in_ok-text.ensures.soaked;
       input = Keeps-refl left;
       output = subst (Appends old now) c.deref.ensures.value c.in_ok-put_all.ensures.whole;
       note = Keeps-refl noted;

@@ -4,7 +4,7 @@ use Rattle.std.proofs.lemmas.Int.{to_z-of_z}
 use Rattle.wdf_wav.specs.PcmStream.{samples_of}
 use Rattle.wdf_soak.specs.declared.figures.Figures.{Figures}
 use Rattle.wdf_soak.specs.Figures.{figures_of, figures_with}
-use Rattle.wdf_soak.proofs.FigureLemmas.{figures_next}
+use Rattle.wdf_soak.proofs.FigureLemmas.{figures_next, sum_high, sum_low}
 use Rattle.wdf_soak.proofs.figures.figures_in.Goals as goal
 
 pub loop-place-preserved : goal.loop-place-preserved
@@ -19,10 +19,6 @@ loop-place-preserved c =
     let next : figures_with c.loop-place.found c.sample_at.result ≡ figures_of (take (place + 1) zs) =
     (λ i. figures_with (c.loop-place.invariant.0 i) (c.sample_at.ensures.value i)) ∙ sym (figures_next zs place inside) in
     let sum : c.with-found.result.sum ≡ c.loop-place.found.sum +ℤ c.sample_at.result = ap (λ (f : Figures). f.sum) value in
-    let low = c.loop-place.invariant.1 in
-    let high = c.loop-place.invariant.2 in
-    let from = c.sample_at.ensures.range.low in
-    let to = c.sample_at.ensures.range.high in
-    let next_low : (pos 0 -ℤ pos (32768 * (c.loop-place.place + 1))) ≤ℤ c.with-found.result.sum = grind arith in
-    let next_high : c.with-found.result.sum ≤ℤ pos (32768 * (c.loop-place.place + 1)) = grind arith in
-    (value ∙ next, next_low, next_high)
+    let low = sum_low place c.loop-place.found.sum c.sample_at.result c.with-found.result.sum sum c.loop-place.invariant.1 c.sample_at.ensures.range.low in
+    let high = sum_high place c.loop-place.found.sum c.sample_at.result c.with-found.result.sum sum c.loop-place.invariant.2 c.sample_at.ensures.range.high in
+    (value ∙ next, low, high)

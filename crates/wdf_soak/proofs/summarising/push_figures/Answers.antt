@@ -1,4 +1,5 @@
-use Rattle.std.proofs.Common.{◌≡◌, ◌∙◌, rules, w64, w128}
+use Rattle.std.proofs.Common.{◌≡◌, ◌∙◌, rules, w64}
+use Rattle.std.specs.Int.{w128}
 use Rattle.std.proofs.lemmas.Int.{to_z-of_z}
 use mir.Val.{SFits}
 use Rattle.wdf_soak.proofs.SummaryLemmas.{figures_told}
