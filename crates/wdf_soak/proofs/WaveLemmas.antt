@@ -10,6 +10,7 @@ use Rattle.wdf_wav.specs.Header.{IsPcmHead}
 use Rattle.wdf_wav.specs.Laws.{CodesOneSample, CountsBytes, DataAppends, HoldsOneSample, SamplesAppend}
 use Rattle.wdf_wav.specs.PcmStream.{data_of, samples_of}
 use Rattle.wdf_wav.specs.SampleCoding.{code_of_value, sample_coding, sample_value}
+use Rattle.wdf_frames.specs.Setting.{Setting}
 use Rattle.wdf_made.specs.Generator.{word_at}
 use Rattle.wdf_made.specs.declared.TheConstants.{MAX_FRAMES}
 use Rattle.wdf_made.specs.Wave.{made_data, made_head, made_samples, sample_from}
@@ -51,7 +52,7 @@ samples_small append holds appends codes counts (z ∷ zs) =
     subst (All IsSmall) (sym read)
     (All-cons IsSmall (sample_value 16 (sample_coding 16 z)) (samples_of 16 (data_of 16 zs)) (coding_small z) (samples_small append holds appends codes counts zs))
 
-pub is_whole_wave : SamplesAppend 16 → HoldsOneSample 16 → DataAppends 16 → CodesOneSample 16 → CountsBytes 16 → (ns : Networks) (seed order frames : ℕ)
+is_whole_wave : SamplesAppend 16 → HoldsOneSample 16 → DataAppends 16 → CodesOneSample 16 → CountsBytes 16 → (ns : Networks) (seed order frames : ℕ)
     → IsWholeWave (made_setting ns frames) (made_data seed order frames)
 is_whole_wave append holds appends codes counts ns seed order frames =
     let samples = made_samples seed order frames in
@@ -62,6 +63,12 @@ is_whole_wave append holds appends codes counts ns seed order frames =
       size = omega (arith, bytes, count);
       within = samples_small append holds appends codes counts samples;
     }
+
+-- so is that of a run on a made wave
+pub made_whole : SamplesAppend 16 → HoldsOneSample 16 → DataAppends 16 → CodesOneSample 16 → CountsBytes 16 → (s : Setting) (seed order frames : ℕ)
+    → s ≡ made_setting s.networks frames → IsWholeWave s (made_data seed order frames)
+made_whole append holds appends codes counts s seed order frames set =
+    subst (λ (x : Setting). IsWholeWave x (made_data seed order frames)) (sym set) (is_whole_wave append holds appends codes counts s.networks seed order frames)
 
 pub is_made_head : (frames : ℕ) → frames ≤ MAX_FRAMES → IsPcmHead (made_head frames)
 is_made_head frames few =

@@ -2,7 +2,8 @@
 //!
 //! [`soak`] makes a ladder of a given order and a wave of given frames from the numbers of a seed, runs
 //! the wave through the ladder's network as the program runs any other, in memory, and gives the
-//! summary of what came of it. `wdf_made` says what is made, and `specs/Summary` what is told.
+//! summary of what came of it. `wdf_made` says what is made, and `specs/Summary` what is told. The law
+//! [`laws::one_soak`] says that this is one text, or one refusal.
 //!
 //! ```rust
 //! let summary = soak(alloc, 1, 5, 1000)?;

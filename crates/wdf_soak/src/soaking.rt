@@ -1,6 +1,6 @@
 //! The stages of a soak.
 
-ghost use Rattle.std.specs.Prelude.{◌≡◌, ◌≤◌, ℕ, IfOk, IfErr, IsSome, Some};
+ghost use Rattle.std.specs.Prelude.{◌≡◌, ◌≤◌, ℕ, length, drop, IfOk, IfErr, IsSome, Some};
 ghost use Rattle.wdf_law.specs.declared.side.Side.TheVariants.{Whole};
 ghost use Rattle.wdf_design.specs.Designs.{IsDesigned};
 ghost use Rattle.wdf_design.specs.Realising.{RealisesEach};
@@ -137,6 +137,14 @@ fn certify_ladder(alloc: Global, networks: &Networks) -> Result<bool, AllocError
     is_certified(alloc, whole(networks))
 }
 
+// The bytes behind the header of a wave.
+fn data_in(wave: &[u8]) -> &[u8]
+    requires { 44 ≤ length wave.now }
+    ensures { result.now ≡ drop 44 wave.now }
+{
+    &wave[44..]
+}
+
 // The summary of a run that is done, and of the wave that it wrote.
 #[tactic(auto, using(crate::proofs::TellLemmas::head_long, crate::proofs::TellLemmas::has_totals))]
 fn tell_run(
@@ -154,13 +162,14 @@ fn tell_run(
     requires told { TellsRun (setting_of run.now) (made_data seed order frames) (limited_by run.now) (totals_by run.now) }
     ensures { IfOk result (λ text. IsSummary seed order frames (setting_of run.now).networks text.items) }
 {
-    let figures = figures_in(&wave[44..]);
+    let figures = figures_in(data_in(wave));
     let totals = run.totals(Side::Whole, 0).unwrap();
     let net = whole(run.networks());
     let clipped = run.limited();
-    summary(
+    let text = summary(
         alloc, seed, order, net, certified, frames, clipped, &figures, &totals,
-    )
+    )?;
+    Ok(text)
 }
 
 // The summary of the run of the made wave.

@@ -1,19 +1,11 @@
-use Rattle.std.proofs.Common.{rules, ◌≡◌, ◌≤◌, ℕ, IfOk, IfErr, IsSome, Some, ◌+◌, ◌-◌, ◌*◌, ◌<◌, length, ◌/◌, ◌%◌, Bool, true, false, nat_eq, nat_lt, List, [], ◌∷◌, ◌++◌, slice_index_or, slice_set, bit_and, bit_or, Fits, w8, w32, w64, Bor, MutBor}
-use Rattle.wdf_law.specs.declared.side.Side.TheVariants.{Whole}
-use Rattle.wdf_design.specs.Designs.{IsDesigned}
-use Rattle.wdf_design.specs.Realising.{RealisesEach}
-use Rattle.wdf_lattice.specs.Runners.{DriveAll, FitsEach}
-use Rattle.wdf_lattice.specs.Sides.{network_at, run_count, sources_driven}
-use Rattle.wdf_stages.specs.Bounding.{AreBounded}
-use Rattle.wdf_frames.specs.RunFacts.{TellsRun}
-use Rattle.wdf_frames.specs.RunStates.{limited_by, setting_of, totals_by}
-use Rattle.wdf_frames.specs.Written.{IsWritten}
-use Rattle.wdf_made.specs.Ladder.{made_netlist}
-use Rattle.wdf_made.specs.Wave.{made_data}
-use Rattle.wdf_made.specs.declared.TheConstants.{MAX_FRAMES, MAX_ORDER}
-use Rattle.wdf_soak.specs.Soaks.{HasFinding, IsSoaked, IsSummary, LadderRefuses, SoakRefuses, WordsRefuse, made_setting, usual_plan}
+use Rattle.std.proofs.Common.{◌≡◌, ℕ, Vec, Global, IfOk, ap, ◌∙◌, subst}
+use Rattle.wdf_lattice.specs.declared.networks.Networks.{Networks}
+use Rattle.wdf_frames.specs.RunStates.{setting_of}
+use Rattle.wdf_frames.specs.Setting.{Setting}
+use Rattle.wdf_soak.specs.Soaks.{IsSummary}
 use Rattle.wdf_soak.proofs.soaking.run_ladder.Goals as goal
 
--- src/soaking.rt:147:1
 pub returns : goal.returns
-returns c = ?
+returns c =
+    let same : (setting_of c.write_wave.new.run).networks ≡ c.args.networks = ap (λ (s : Setting). s.networks) (c.write_wave.ensures.same ∙ c.in_ok-run.ensures.set) in
+    subst (λ (ns : Networks). IfOk c.tell_run.result (λ (text : Vec ℕ Global). IsSummary c.args.seed c.args.order c.args.frames ns text.items)) same c.tell_run.ensures

@@ -1,27 +1,24 @@
-use Rattle.std.proofs.Common.{rules, ◌≡◌, ◌≤◌, ℕ, IfOk, IfErr, IsSome, Some, ◌+◌, ◌-◌, ◌*◌, ◌<◌, length, ◌/◌, ◌%◌, Bool, true, false, nat_eq, nat_lt, List, [], ◌∷◌, ◌++◌, slice_index_or, slice_set, bit_and, bit_or, Fits, w8, w32, w64, Bor, MutBor}
+use Rattle.std.proofs.Common.{◌≡◌, List, ℕ, Some, sym, ap, ◌∙◌}
 use Rattle.wdf_law.specs.declared.side.Side.TheVariants.{Whole}
-use Rattle.wdf_design.specs.Designs.{IsDesigned}
-use Rattle.wdf_design.specs.Realising.{RealisesEach}
-use Rattle.wdf_lattice.specs.Runners.{DriveAll, FitsEach}
-use Rattle.wdf_lattice.specs.Sides.{network_at, run_count, sources_driven}
-use Rattle.wdf_stages.specs.Bounding.{AreBounded}
-use Rattle.wdf_frames.specs.RunFacts.{TellsRun}
+use Rattle.wdf_lattice.specs.declared.networks.Networks.{Networks}
+use Rattle.wdf_lattice.specs.Sides.{network_at}
+use Rattle.wdf_wav.specs.PcmStream.{samples_of}
 use Rattle.wdf_frames.specs.RunStates.{limited_by, setting_of, totals_by}
-use Rattle.wdf_frames.specs.Written.{IsWritten}
-use Rattle.wdf_made.specs.Ladder.{made_netlist}
-use Rattle.wdf_made.specs.Wave.{made_data}
-use Rattle.wdf_made.specs.declared.TheConstants.{MAX_FRAMES, MAX_ORDER}
-use Rattle.wdf_soak.specs.Soaks.{HasFinding, IsSoaked, IsSummary, LadderRefuses, SoakRefuses, WordsRefuse, made_setting, usual_plan}
+use Rattle.wdf_soak.specs.Figures.{figures_of, output_samples}
+use Rattle.wdf_soak.specs.Summary.{summary_text}
+use Rattle.wdf_soak.proofs.TellLemmas.{is_summary}
 use Rattle.wdf_soak.proofs.soaking.tell_run.Goals as goal
 
--- src/soaking.rt:137:30
-pub slice_bounds-figures_in-count : goal.slice_bounds-figures_in-count
-slice_bounds-figures_in-count c = ?
-
--- src/soaking.rt:137:30
-pub slice_bounds-figures_in-start : goal.slice_bounds-figures_in-start
-slice_bounds-figures_in-start c = ?
-
--- src/soaking.rt:121:1
 pub returns : goal.returns
-returns c = ?
+returns c =
+    let run = c.args.run.now in
+    let s = setting_of run in
+    let n = c.whole-net.result.now in
+    let totals = c.unwrap-totals.result in
+    let whole : network_at s.networks Whole ≡ Some n = ap (λ (ns : Networks). network_at ns Whole) (sym c.networks.ensures) ∙ c.whole-net.ensures in
+    let account : totals_by run Whole 0 ≡ Some totals = sym c.totals.ensures ∙ c.unwrap-totals.ensures in
+    let figures : c.figures_in-figures.result ≡ figures_of (output_samples c.args.wave.now) =
+    c.figures_in-figures.ensures ∙ ap (λ (bytes : List ℕ). figures_of (samples_of 16 bytes)) c.data_in.ensures in
+    is_summary c.args.seed c.args.order c.args.frames s.networks c.args.certified s c.args.wave.now (limited_by run) (totals_by run) n totals _
+    c.requires.set c.requires.found c.requires.written c.requires.told whole account
+    (c.in_ok-text.ensures ∙ (λ i. summary_text c.args.seed c.args.order n c.args.certified c.args.frames (c.limited-clipped.ensures i) (figures i) totals))

@@ -4,13 +4,6 @@ use Rattle.std.specs.Int.{w128}
 use Rattle.std.proofs.lemmas.Int.{to_z-of_z}
 use mir.Val.{SFits}
 use Rattle.wdf_soak.specs.Figures.{greater, lesser}
-use Rattle.wdf_soak.proofs.SummaryLemmas.{figures_told}
-use Rattle.wdf_soak.proofs.RunLemmas.{never_over}
-use Rattle.wdf_soak.proofs.FigureLemmas.{figures_next}
-use Rattle.wdf_soak.proofs.LadderLemmas.{is_whole}
-use Rattle.wdf_soak.proofs.TellLemmas.{is_summary}
-use Rattle.wdf_soak.proofs.WaveLemmas.{is_whole_wave}
-use Rattle.wdf_soak.proofs.OneSoak.{one_soak}
 use Rattle.wdf_soak.proofs.figures.Figures.with.Goals as goal
 
 pub returns : goal.returns
