@@ -1,0 +1,6 @@
+pub mod Carrying
+pub mod Compiled
+pub mod Meaning
+pub mod Operations
+pub mod ScheduleCode
+pub mod Schedules
