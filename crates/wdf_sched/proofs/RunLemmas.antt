@@ -52,7 +52,7 @@ op-holds q next v (Root a b m x y) r w =
     let ka = sym (keeps a r.0) in
     let kb = sym (keeps b r.1) in (
       put-two x y _ _ v (omega (arith, w.0, w.1)) ∙ (λ i. trunc (root_value q m (q - m) (ka i) (kb i) (ka i)) q),
-      put-here y _ _ ∙ (λ i. trunc (root_value q m (q - m) (ka i) (kb i) (kb i)) q),
+      put-here y _ (put x (trunc (root_value q m (q - m) (v a) (v b) (v a)) q) v) ∙ (λ i. trunc (root_value q m (q - m) (ka i) (kb i) (kb i)) q),
     )
 op-holds q next v (DownSeries a b d m x y) r w =
     let keeps = op-keeps q next v (DownSeries a b d m x y) w in
@@ -60,7 +60,7 @@ op-holds q next v (DownSeries a b d m x y) r w =
     let kb = sym (keeps b r.1) in
     let kd = sym (keeps d r.2) in (
       put-two x y _ _ v (omega (arith, w.0, w.1)) ∙ (λ i. trunc (series_part q m (ka i) (kb i) (kd i) (ka i)) q),
-      put-here y _ _ ∙ (λ i. trunc (series_part q (q - m) (ka i) (kb i) (kd i) (kb i)) q),
+      put-here y _ (put x (trunc (series_part q m (v a) (v b) (v d) (v a)) q) v) ∙ (λ i. trunc (series_part q (q - m) (ka i) (kb i) (kd i) (kb i)) q),
     )
 op-holds q next v (DownParallel a b d raw x y) r w =
     let keeps = op-keeps q next v (DownParallel a b d raw x y) w in
@@ -69,7 +69,7 @@ op-holds q next v (DownParallel a b d raw x y) r w =
     let kd = sym (keeps d r.2) in
     let kr = sym (keeps raw r.3) in (
       put-two x y _ _ v (omega (arith, w.0, w.1)) ∙ (λ i. trunc (parallel_rest q (kr i) (kd i) (ka i)) q),
-      put-here y _ _ ∙ (λ i. trunc (parallel_rest q (kr i) (kd i) (kb i)) q),
+      put-here y _ (put x (trunc (parallel_rest q (v raw) (v d) (v a)) q) v) ∙ (λ i. trunc (parallel_rest q (kr i) (kd i) (kb i)) q),
     )
 
 -- ---- values that agree

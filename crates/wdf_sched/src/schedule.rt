@@ -71,10 +71,19 @@ impl Schedule {
         ensures down { result.down ≡ slot_at self.now.down_slots elem }
         ensures in_range { (result.up < self.now.slot_count) × (result.down < self.now.slot_count) }
     {
+        self.rules();
+        let down = self.down_slot(elem);
         LeafSlots {
             up: elem as u16,
-            down: self.down_slots[elem as usize],
+            down,
         }
+    }
+
+    fn down_slot(&self, elem: u32) -> u16
+        requires { elem < length (elements self.now.net) }
+        ensures { result ≡ slot_at self.now.down_slots elem }
+    {
+        self.down_slots[elem as usize]
     }
 
     /// What the type of every schedule keeps.
