@@ -1,3 +1,4 @@
+pub mod JunctionLemmas
 pub mod LeafLemmas
 pub mod ListLemmas
 pub mod OrderLemmas

@@ -13,6 +13,7 @@ use Rattle.wdf_sched.specs.Operations.{Slots, HoldAll, AreWithin}
 use Rattle.wdf_sched.specs.Meaning.{Starts, HasWavesWithin, slot_at, Computes}
 use Rattle.wdf_sched.specs.Schedules.{ScheduleValue, IsSchedule}
 use Rattle.wdf_sched.specs.Compiled.{IsBelow, all_slots, down_slot, ops_of, down_slots_of, schedule_of, IsMade}
+use Rattle.wdf_sched.proofs.JunctionLemmas.{all-joined}
 use Rattle.wdf_sched.proofs.LeafLemmas.{is_below, in_first, in_second}
 use Rattle.wdf_sched.proofs.OrderLemmas.{all-order, down_slot-below, slots-few}
 use Rattle.wdf_sched.proofs.ShareLemmas.{all-shares}
@@ -48,6 +49,7 @@ is_made n rules numbers sound one =
       room = slots-few n.left n.right count refl most;
       schedule = record {
         order = all-order n.m n.left n.right count left right;
+        joined = all-joined n.m n.left n.right count left right;
         few = slots-few n.left n.right count refl most;
         multipliers = all-shares (unit_of n) n.m n.left n.right count sound.some sound.few sound.left sound.right;
         each = length-map-range_with_len (down_slot n.left n.right count) 0 count;

@@ -1,5 +1,6 @@
 pub mod Carrying
 pub mod Compiled
+pub mod Junctions
 pub mod Meaning
 pub mod Operations
 pub mod ScheduleCode
