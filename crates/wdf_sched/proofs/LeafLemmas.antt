@@ -9,6 +9,10 @@ use Rattle.wdf_sched.specs.Compiled.{IsBelow}
 pub leaf_either : (l r : AdaptorTree) (i : ℕ) → has_element (elements_of l ++ elements_of r) i ≡ (has_leaf l i || has_leaf r i)
 leaf_either l r i = list_any-append (λ (x : LeafElement). x.number == i) (elements_of l) (elements_of r)
 
+-- a leaf has its own number
+pub own_leaf : (i : ℕ) → ((i == i) || false) ≡ true
+own_leaf i = ap (λ (b : Bool). b || false) (eq-eqb i i refl)
+
 or_first : (a b : Bool) → a ≡ true → (a || b) ≡ true
 or_first a b h = ap (λ (c : Bool). c || b) h
 
@@ -25,6 +29,6 @@ in_second l r i h = leaf_either l r i ∙ or_second (has_leaf l i) (has_leaf r i
 
 -- every number of a tree is below a count that is above all of them
 pub is_below : (count : ℕ) (t : AdaptorTree) → ((i : ℕ) → has_leaf t i ≡ true → i < count) → IsBelow count t
-is_below count (leaf i k flip) h = h i (ap (λ (b : Bool). b || false) (eq-eqb i i refl))
+is_below count (leaf i k flip) h = h i (own_leaf i)
 is_below count (series m l r) h = (is_below count l (λ i e. h i (in_first l r i e)), is_below count r (λ i e. h i (in_second l r i e)))
 is_below count (parallel m l r) h = (is_below count l (λ i e. h i (in_first l r i e)), is_below count r (λ i e. h i (in_second l r i e)))

@@ -6,4 +6,5 @@ pub mod RunLemmas
 pub mod ScheduleLemmas
 pub mod ShareLemmas
 pub mod SizeLemmas
+pub mod StartLemmas
 pub mod WaveLemmas

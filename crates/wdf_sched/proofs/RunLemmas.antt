@@ -1,5 +1,5 @@
 -- Operations in order, carried out: in the end the slots hold what each of them writes.
-use Rattle.std.proofs.Common.{◌≡◌, ◌≢◌, ℕ, ◌+◌, ◌-◌, ◌<◌, ◌≤◌, Bool, true, false, ◌==◌, if◌then◌else◌, List, [], ◌∷◌, length, refl, ap, sym, ◌∙◌, subst, arith}
+use Rattle.std.proofs.Common.{◌≡◌, ◌≢◌, ℕ, ◌+◌, ◌-◌, ◌<◌, ◌≤◌, Bool, true, false, ◌==◌, if◌then◌else◌, List, [], ◌∷◌, refl, ap, sym, ◌∙◌, subst, arith}
 use Rattle.std.specs.Prelude.{ℤ, ◌+ℤ◌}
 use Rattle.std.proofs.lemmas.Bool.{eq-eqb, ne_eqb, cases_lt}
 use mathlib.Core.Logic.{◌⊎◌, inl, inr}
@@ -8,9 +8,7 @@ use Rattle.wdf_algebra.specs.Truncation.{trunc}
 use Rattle.wdf_sched.specs.declared.op.Op.{Op}
 use Rattle.wdf_sched.specs.declared.op.Op.TheVariants.{UpSeries, UpParallel, Root, DownSeries, DownParallel}
 use Rattle.wdf_sched.specs.Operations.{Slots, Holds, HoldAll, ReadsBelow, WritesFrom, written_by, InOrder, parallel_rest}
-use Rattle.wdf_sched.specs.Carrying.{put, after_op, after_ops, AgreeBelow, HasValues}
-use Rattle.wdf_sched.specs.Schedules.{ScheduleValue, IsSchedule}
-use Rattle.wdf_law.specs.Network.{unit_of, elements}
+use Rattle.wdf_sched.specs.Carrying.{put, after_op, after_ops, AgreeBelow}
 
 -- ---- what one operation writes
 
@@ -153,7 +151,7 @@ op-moves q next v w (DownParallel a b d raw x y) r own same h =
 
 -- ---- a list of operations
 
-run-holds : (q : ℕ) (ops : List Op) (next end : ℕ) (v : Slots) → InOrder next ops end
+pub run-holds : (q : ℕ) (ops : List Op) (next end : ℕ) (v : Slots) → InOrder next ops end
     → AgreeBelow next v (after_ops q ops v) × HoldAll q (after_ops q ops v) ops
 run-holds q [] next end v o = (λ i h. refl, tt)
 run-holds q (op ∷ ops) next end v o =
@@ -162,13 +160,7 @@ run-holds q (op ∷ ops) next end v o =
       (op-moves q next (after_op q op v) (after_ops q ops (after_op q op v)) op o.0 o.1 rest.0 (op-holds q next v op o.0 o.1), rest.1),
     )
 
-run-agrees : (q : ℕ) (ops : List Op) (next end : ℕ) (v w : Slots) → InOrder next ops end → AgreeBelow next v w → HoldAll q v ops → HoldAll q w ops → AgreeBelow end v w
+pub run-agrees : (q : ℕ) (ops : List Op) (next end : ℕ) (v w : Slots) → InOrder next ops end → AgreeBelow next v w → HoldAll q v ops → HoldAll q w ops → AgreeBelow end v w
 run-agrees q [] next end v w o same h k = subst (λ (n : ℕ). AgreeBelow n v w) o same
 run-agrees q (op ∷ ops) next end v w o same h k =
     run-agrees q ops (next + written_by op) end v w o.2 (op-agrees q next v w op o.0 o.1 same h.0 k.0) h.1 k.1
-
-pub has_values : (s : ScheduleValue) → IsSchedule s → HasValues s
-has_values s rules = record {
-  some = λ v. run-holds (unit_of s.net) s.ops (length (elements s.net)) s.slot_count v rules.order;
-  only = λ v w same h k. run-agrees (unit_of s.net) s.ops (length (elements s.net)) s.slot_count v w rules.order same h k;
-}

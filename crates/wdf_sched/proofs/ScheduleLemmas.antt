@@ -42,6 +42,7 @@ is_made n rules numbers sound one =
     let count = length (elements n) in
     let most = rules.most in
     let left = is_below count n.left (λ i h. numbers.below i (in_first n.left n.right i h)) in
+    let each : length (down_slots_of n) ≡ count = length-map-range_with_len (down_slot n.left n.right count) 0 count in
     let right = is_below count n.right (λ i h. numbers.below i (in_second n.left n.right i h)) in
     record {
       left_below = is_below 128 n.left (λ i h. let below = numbers.below i (in_first n.left n.right i h) in omega arith);
@@ -49,10 +50,11 @@ is_made n rules numbers sound one =
       room = slots-few n.left n.right count refl most;
       schedule = record {
         order = all-order n.m n.left n.right count left right;
-        joined = all-joined n.m n.left n.right count left right;
+        joined = all-joined (down_slots_of n) n.m n.left n.right count numbers.disjoint numbers.left numbers.right
+            (λ i h. let below = numbers.below i h in (subst (λ (c : ℕ). i < c) (sym each) below, sym (slot_at-down_slots n i below)));
         few = slots-few n.left n.right count refl most;
         multipliers = all-shares (unit_of n) n.m n.left n.right count sound.some sound.few sound.left sound.right;
-        each = length-map-range_with_len (down_slot n.left n.right count) 0 count;
+        each = each;
         in_range = λ i h. subst (λ (j : ℕ). j < all_slots n.left n.right count) (sym (slot_at-down_slots n i h)) (down_slot-below n.left n.right count i);
         computes = computes n numbers sound one;
       };

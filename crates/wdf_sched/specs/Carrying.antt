@@ -6,6 +6,7 @@ use Rattle.wdf_law.specs.Network.{Network, unit_of, elements}
 use Rattle.wdf_sched.specs.declared.op.Op.{Op}
 use Rattle.wdf_sched.specs.declared.op.Op.TheVariants.{UpSeries, UpParallel, Root, DownSeries, DownParallel}
 use Rattle.wdf_sched.specs.Operations.{Slots, HoldAll, parallel_rest}
+use Rattle.wdf_sched.specs.Meaning.{Starts}
 use Rattle.wdf_sched.specs.Schedules.{ScheduleValue}
 
 -- the values with z in the slot j
@@ -32,11 +33,16 @@ after_ops q (op ∷ ops) v = after_ops q ops (after_op q op v)
 abbrev pub AgreeBelow : ℕ → Slots → Slots → Type 0
 AgreeBelow count v w = (i : ℕ) → i < count → w i ≡ v i
 
--- The values that a schedule's operations write follow from those in the elements' up slots, whatever they are.
+-- The values that a schedule's operations write follow from those in the elements' up slots.
 pub record HasValues (s : ScheduleValue) : Type 0 where
-  -- carried out in their order, the operations keep the up slots, and in the end the slots hold what each of them writes
+  -- for every state and every values of the sources there are values of the up slots to begin with
+  pub starts : (x e : ℕ → ℤ) → (v : Slots) × Starts s.net x e v
+  -- Carried out in their order on any values, the operations keep those of the up slots, and in the end the slots hold what
+  -- each of them writes;
   pub some : (v : Slots) → AgreeBelow (length (elements s.net)) v (after_ops (unit_of s.net) s.ops v)
       × HoldAll (unit_of s.net) (after_ops (unit_of s.net) s.ops v) s.ops
-  -- and no other values do
+  -- so they hold what the elements reflect where the first values did,
+  pub kept : (x e : ℕ → ℤ) (v w : Slots) → AgreeBelow (length (elements s.net)) v w → Starts s.net x e v → Starts s.net x e w
+  -- and no other values with these in the up slots do.
   pub only : (v w : Slots) → AgreeBelow (length (elements s.net)) v w → HoldAll (unit_of s.net) v s.ops → HoldAll (unit_of s.net) w s.ops
       → AgreeBelow s.slot_count v w

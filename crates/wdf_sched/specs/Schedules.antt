@@ -16,7 +16,7 @@ pub record ScheduleValue : Type 0 where
 -- The slots below the count of the elements are their up slots; each further one is written once, and read after its write.
 pub record IsSchedule (s : ScheduleValue) : Type 0 where
   pub order : InOrder (length (elements s.net)) s.ops s.slot_count
-  pub joined : IsJoined (length (elements s.net)) s.ops
+  pub joined : IsJoined s.ops s.down_slots
   pub few : s.slot_count ≤ 1024
   pub multipliers : Each (HasShare (unit_of s.net)) s.ops
   pub each : length s.down_slots ≡ length (elements s.net)

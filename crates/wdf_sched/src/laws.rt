@@ -10,4 +10,5 @@ pub fn values(schedule: &Schedule)
     ensures { HasValues schedule.now }
 {
     schedule.rules();
+    wdf_law::laws::numbers(schedule.net());
 }
