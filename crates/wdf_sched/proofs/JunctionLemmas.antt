@@ -117,8 +117,7 @@ join_own slots l r base next stack left right own hl hr first second jl jr =
     let s1 = pushed l base next stack in
     let s2 = pushed r (base + rise l) (next + 1) s1 in
     join_more slots (left ++ right) (own ∷ []) stack s2 (own_branch own ∷ stack)
-    (join_more slots left right stack s1 s2 jl jr)
-    (
+    (join_more slots left right stack s1 s2 jl jr) (
       s1,
       stack,
       subst (λ (p : Branch). IsTaken slots p s2 s1) (sym second) (taken slots r (base + rise l) (next + 1) (next + 2) s1 hr),

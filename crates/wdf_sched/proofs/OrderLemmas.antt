@@ -42,19 +42,25 @@ down-order (leaf i k flip) count base d next below h room sent = let e : next �
 down-order (series m l r) count base d next below h room sent =
     let first = up_slot-below l count base below.0 h in
     let second = up_slot-below r count (base + rise l) below.1 (omega arith) in
-    let end : next + 2 + fall r + fall l ≡ next + (fall l + fall r + 2) = omega arith in
-    ((omega arith, omega arith, sent), (refl, refl), subst (InOrder (next + 2) (down_ops r (base + rise l) (next + 1) (next + 2) ++ down_ops l base next (next + 2 + fall r))) end
-    (in_order (down_ops r (base + rise l) (next + 1) (next + 2)) (down_ops l base next (next + 2 + fall r)) (next + 2) (next + 2 + fall r) (next + 2 + fall r + fall l)
-    (down-order r count (base + rise l) (next + 1) (next + 2) below.1 (omega arith) (omega arith) (omega arith))
-    (down-order l count base next (next + 2 + fall r) below.0 h (omega arith) (omega arith))))
+    let end : next + 2 + fall r + fall l ≡ next + (fall l + fall r + 2) = omega arith in (
+      (omega arith, omega arith, sent),
+      (refl, refl),
+      subst (InOrder (next + 2) (down_ops r (base + rise l) (next + 1) (next + 2) ++ down_ops l base next (next + 2 + fall r))) end
+          (in_order (down_ops r (base + rise l) (next + 1) (next + 2)) (down_ops l base next (next + 2 + fall r)) (next + 2) (next + 2 + fall r) (next + 2 + fall r + fall l)
+          (down-order r count (base + rise l) (next + 1) (next + 2) below.1 (omega arith) (omega arith) (omega arith))
+          (down-order l count base next (next + 2 + fall r) below.0 h (omega arith) (omega arith))),
+    )
 down-order (parallel m l r) count base d next below h room sent =
     let first = up_slot-below l count base below.0 h in
     let second = up_slot-below r count (base + rise l) below.1 (omega arith) in
-    let end : next + 2 + fall r + fall l ≡ next + (fall l + fall r + 2) = omega arith in
-    ((omega arith, omega arith, sent, omega arith), (refl, refl), subst (InOrder (next + 2) (down_ops r (base + rise l) (next + 1) (next + 2) ++ down_ops l base next (next + 2 + fall r))) end
-    (in_order (down_ops r (base + rise l) (next + 1) (next + 2)) (down_ops l base next (next + 2 + fall r)) (next + 2) (next + 2 + fall r) (next + 2 + fall r + fall l)
-    (down-order r count (base + rise l) (next + 1) (next + 2) below.1 (omega arith) (omega arith) (omega arith))
-    (down-order l count base next (next + 2 + fall r) below.0 h (omega arith) (omega arith))))
+    let end : next + 2 + fall r + fall l ≡ next + (fall l + fall r + 2) = omega arith in (
+      (omega arith, omega arith, sent, omega arith),
+      (refl, refl),
+      subst (InOrder (next + 2) (down_ops r (base + rise l) (next + 1) (next + 2) ++ down_ops l base next (next + 2 + fall r))) end
+          (in_order (down_ops r (base + rise l) (next + 1) (next + 2)) (down_ops l base next (next + 2 + fall r)) (next + 2) (next + 2 + fall r) (next + 2 + fall r + fall l)
+          (down-order r count (base + rise l) (next + 1) (next + 2) below.1 (omega arith) (omega arith) (omega arith))
+          (down-order l count base next (next + 2 + fall r) below.0 h (omega arith) (omega arith))),
+    )
 
 -- the whole list
 pub all-order : (m : ℕ) (l r : AdaptorTree) (count : ℕ) → IsBelow count l → IsBelow count r → InOrder count (all_ops m l r count) (all_slots l r count)

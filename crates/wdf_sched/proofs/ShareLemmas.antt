@@ -20,12 +20,16 @@ up-shares q (parallel m l r) next s =
 
 down-shares : (q : ℕ) (t : AdaptorTree) (base d next : ℕ) → IsSound q t → Each (HasShare q) (down_ops t base d next)
 down-shares q (leaf i k flip) base d next s = tt
-down-shares q (series m l r) base d next s =
-    ((s.0, s.1), both (HasShare q) (down_ops r (base + rise l) (next + 1) (next + 2)) (down_ops l base next (next + 2 + fall r))
-    (down-shares q r (base + rise l) (next + 1) (next + 2) s.3) (down-shares q l base next (next + 2 + fall r) s.2))
-down-shares q (parallel m l r) base d next s =
-    (tt, both (HasShare q) (down_ops r (base + rise l) (next + 1) (next + 2)) (down_ops l base next (next + 2 + fall r))
-    (down-shares q r (base + rise l) (next + 1) (next + 2) s.3) (down-shares q l base next (next + 2 + fall r) s.2))
+down-shares q (series m l r) base d next s = (
+  (s.0, s.1),
+  both (HasShare q) (down_ops r (base + rise l) (next + 1) (next + 2)) (down_ops l base next (next + 2 + fall r))
+      (down-shares q r (base + rise l) (next + 1) (next + 2) s.3) (down-shares q l base next (next + 2 + fall r) s.2),
+)
+down-shares q (parallel m l r) base d next s = (
+  tt,
+  both (HasShare q) (down_ops r (base + rise l) (next + 1) (next + 2)) (down_ops l base next (next + 2 + fall r))
+      (down-shares q r (base + rise l) (next + 1) (next + 2) s.3) (down-shares q l base next (next + 2 + fall r) s.2),
+)
 
 pub all-shares : (q m : ℕ) (l r : AdaptorTree) (count : ℕ) → 1 ≤ m → m < q → IsSound q l → IsSound q r → Each (HasShare q) (all_ops m l r count)
 all-shares q m l r count some few left right =

@@ -55,8 +55,7 @@ up-within q limit x e v (series m l r) next z unit s h st w =
     let p = parts_up q v l r next _ h in
     behind (IsWithin q limit v) (up_ops l next) (up_ops r (next + rise l)) (UpSeries (up_slot l next) (up_slot r (next + rise l)) (next + rise l + rise r))
     (up-within q limit x e v l next (series_first_down q x e m l r z) unit s.2 p.left st.0 w.2)
-    (up-within q limit x e v r (next + rise l) (series_second_down q x e m l r z) unit s.3 p.right st.1 w.3)
-    (
+    (up-within q limit x e v r (next + rise l) (series_second_down q x e m l r z) unit s.3 p.right st.1 w.3) (
       of_value limit _ _ (up-shown q x e v l next unit p.left st.0) (own_up q limit x e l (series_first_down q x e m l r z) w.2),
       of_value limit _ _ (up-shown q x e v r (next + rise l) unit p.right st.1) (own_up q limit x e r (series_second_down q x e m l r z) w.3),
       of_value limit _ _ (up-shown q x e v (series m l r) next unit h st) w.0,
@@ -71,8 +70,7 @@ up-within q limit x e v (parallel m l r) next z unit s h st w =
     behind (IsWithin q limit v) (up_ops l next) (up_ops r (next + rise l))
     (UpParallel (up_slot l next) (up_slot r (next + rise l)) m (next + rise l + rise r) (next + rise l + rise r + 1))
     (up-within q limit x e v l next (parallel_first_down q x e m l r z) unit s.2 p.left st.0 w.2)
-    (up-within q limit x e v r (next + rise l) (parallel_second_down q x e m l r z) unit s.3 p.right st.1 w.3)
-    (
+    (up-within q limit x e v r (next + rise l) (parallel_second_down q x e m l r z) unit s.3 p.right st.1 w.3) (
       of_value limit _ _ left u1,
       of_value limit _ _ right u2,
       of_value (q * limit) _ _ (p.own.0 ∙ (λ i. parallel_value m (q - m) (left i) (right i))) (shares-abs q m limit _ _ (omega arith) u1 u2),
@@ -135,8 +133,7 @@ all-within q limit x e v m l r count unit soundl soundr h sl sr wl wr =
     (both (IsWithin q limit v) ups_root dr
     (behind (IsWithin q limit v) (up_ops l count) (up_ops r (count + rise l)) op
     (up-within q limit x e v l count z1 unit soundl p.left_up sl wl)
-    (up-within q limit x e v r (count + rise l) z2 unit soundr p.right_up sr wr)
-    (
+    (up-within q limit x e v r (count + rise l) z2 unit soundr p.right_up sr wr) (
       of_value limit _ _ p.left (own_up q limit x e l z1 wl),
       of_value limit _ _ p.right (own_up q limit x e r z2 wr),
       of_value limit _ _ p.first (own_down q limit x e l z1 wl),

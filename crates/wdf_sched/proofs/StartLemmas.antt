@@ -36,9 +36,9 @@ two_trees : (x e : ℕ → ℤ) (l r : AdaptorTree) → AreDisjoint l r → Refl
     × Reflects x e (λ i. if has_leaf l i then leaf_value x e l i else leaf_value x e r i) r
 two_trees x e l r apart h k = (
   reflects-same x e (leaf_value x e l) (λ i. if has_leaf l i then leaf_value x e l i else leaf_value x e r i) l
-  (λ i some. ap (λ (b : Bool). if b then leaf_value x e l i else leaf_value x e r i) some) h,
+      (λ i some. ap (λ (b : Bool). if b then leaf_value x e l i else leaf_value x e r i) some) h,
   reflects-same x e (leaf_value x e r) (λ i. if has_leaf l i then leaf_value x e l i else leaf_value x e r i) r
-  (λ i some. ap (λ (b : Bool). if b then leaf_value x e l i else leaf_value x e r i) (apart i some)) k,
+      (λ i some. ap (λ (b : Bool). if b then leaf_value x e l i else leaf_value x e r i) (apart i some)) k,
 )
 
 leaf_value-reflects : (x e : ℕ → ℤ) (t : AdaptorTree) → HasDistinctLeaves t → Reflects x e (leaf_value x e t) t

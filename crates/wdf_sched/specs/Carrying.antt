@@ -35,7 +35,7 @@ AgreeBelow count v w = (i : ℕ) → i < count → w i ≡ v i
 
 -- The values that a schedule's operations write follow from those in the elements' up slots.
 pub record HasValues (s : ScheduleValue) : Type 0 where
-  -- for every state and every values of the sources there are values of the up slots to begin with
+  -- for every state and every input there are values of the up slots to begin with
   pub starts : (x e : ℕ → ℤ) → (v : Slots) × Starts s.net x e v
   -- Carried out in their order on any values, the operations keep those of the up slots, and in the end the slots hold what
   -- each of them writes;

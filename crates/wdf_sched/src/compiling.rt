@@ -63,12 +63,7 @@ fn down_slot(left: &Tree, right: &Tree, count: u16, number: u32) -> u16
 }
 
 // Those of the elements below `count`.
-fn down_slots(
-    alloc: Global,
-    left: &Tree,
-    right: &Tree,
-    count: u16,
-) -> Result<Vec<u16>, AllocError>
+fn down_slots(alloc: Global, left: &Tree, right: &Tree, count: u16) -> Result<Vec<u16>, AllocError>
     requires { all_slots (adaptor_tree left.now) (adaptor_tree right.now) count ≤ 1024 }
     ensures { IfOk result (λ v. v.items ≡ map (down_slot (adaptor_tree left.now) (adaptor_tree right.now) count) (range_with_len 0 count)) }
 {

@@ -43,7 +43,14 @@ pub(crate) fn push_down(
             let b = up_slot(r, second);
             let x = next;
             let y = next + 1;
-            ops.push(Op::DownSeries { a, b, d, m: *m, x, y })?;
+            ops.push(Op::DownSeries {
+                a,
+                b,
+                d,
+                m: *m,
+                x,
+                y,
+            })?;
             push_down(r, second, y, next + 2, ops)?;
             push_down(l, base, x, next + 2 + fall(r), ops)
         }

@@ -4,8 +4,9 @@ ghost use Rattle.wdf_sched.specs.Carrying.{HasValues};
 
 use crate::Schedule;
 
-/// From every choice of what the elements reflect there are values that all operations hold of, and
-/// they are the only ones: those that the operations leave, carried out in their order.
+/// For every state and every input there are values of the up slots to begin with. Carried out in
+/// their order, the operations keep these and leave values that they all hold of; and with these in
+/// the up slots no other values do.
 pub fn values(schedule: &Schedule)
     ensures { HasValues schedule.now }
 {

@@ -7,7 +7,11 @@
 pub enum Op {
     /// A series junction on the way up. `a` and `b` are the waves that its first and its second
     /// part reflect, and `out` is the wave that it reflects, a + b.
-    UpSeries { a: u16, b: u16, out: u16 },
+    UpSeries {
+        a: u16,
+        b: u16,
+        out: u16,
+    },
     /// A parallel junction on the way up, with the multiplier `m` of its first part. `a` and `b`
     /// are the waves that its parts reflect, `raw` is m·a + (q - m)·b, and `out` is the wave that it
     /// reflects, trunc(raw).

@@ -60,7 +60,13 @@ pub(crate) fn push_up(tree: &Tree, next: u16, ops: &mut Vec<Op>) -> Result<(), A
             let b = up_slot(r, second);
             let raw = second + rise(r);
             let out = raw + 1;
-            ops.push(Op::UpParallel { a, b, m: *m, raw, out })?;
+            ops.push(Op::UpParallel {
+                a,
+                b,
+                m: *m,
+                raw,
+                out,
+            })?;
             Ok(())
         }
     }

@@ -23,15 +23,6 @@ fn parallel(alloc: Global, m: u32, l: Tree, r: Tree) -> Result<Tree, AllocError>
     Ok(Tree::Parallel { m, l, r })
 }
 
-// The down slots of the elements, by their numbers.
-fn down_slots(alloc: Global, schedule: &Schedule) -> Result<Vec<u16>, AllocError> {
-    let mut slots = Vec::new(alloc);
-    for elem in 0..schedule.net().element_count() as u32 {
-        slots.push(schedule.leaf_slots(elem).down)?;
-    }
-    Ok(slots)
-}
-
 // A source, and a capacitor and a load in parallel: slots 0, 1 and 2 are theirs.
 const ONE_JUNCTION: [Op; 3] = [
     Op::UpParallel {
@@ -58,18 +49,6 @@ const ONE_JUNCTION: [Op; 3] = [
     },
 ];
 
-#[test]
-fn one_junction(rt: HostRuntime) -> Result<(), Fail> {
-    let alloc = rt.alloc();
-    let right = parallel(alloc, 8192, leaf(1, Kind::Cap), leaf(2, Kind::Res))?;
-    let net = Net::new(14, 5461, leaf(0, Kind::Src), right, Outlet::Load(2))?;
-    let schedule = compile(alloc, net)?;
-    assert!(rt; schedule.ops() == ONE_JUNCTION.as_slice());
-    assert!(rt; down_slots(alloc, &schedule)?.as_slice() == [5, 7, 8].as_slice());
-    assert_eq!(rt; schedule.slot_count(), 9);
-    Ok(())
-}
-
 // An inductor, and a capacitor and a load in parallel, in series, at the right of a source: slots
 // 0 to 3 are the elements'. The way down takes the series junction first.
 const TWO_JUNCTIONS: [Op; 5] = [
@@ -80,11 +59,7 @@ const TWO_JUNCTIONS: [Op; 5] = [
         raw: 4,
         out: 5,
     },
-    Op::UpSeries {
-        a: 3,
-        b: 5,
-        out: 6,
-    },
+    Op::UpSeries { a: 3, b: 5, out: 6 },
     Op::Root {
         a: 0,
         b: 6,
@@ -110,27 +85,10 @@ const TWO_JUNCTIONS: [Op; 5] = [
     },
 ];
 
-#[test]
-fn two_junctions(rt: HostRuntime) -> Result<(), Fail> {
-    let alloc = rt.alloc();
-    let below = parallel(alloc, 8192, leaf(1, Kind::Cap), leaf(2, Kind::Res))?;
-    let right = series(alloc, 10923, leaf(3, Kind::Ind), below)?;
-    let net = Net::new(14, 5461, leaf(0, Kind::Src), right, Outlet::Load(2))?;
-    let schedule = compile(alloc, net)?;
-    assert!(rt; schedule.ops() == TWO_JUNCTIONS.as_slice());
-    assert!(rt; down_slots(alloc, &schedule)?.as_slice() == [7, 11, 12, 9].as_slice());
-    assert_eq!(rt; schedule.slot_count(), 13);
-    Ok(())
-}
-
 // A series junction in the left tree and a parallel one in the right: the way up takes the left
 // tree first, and the way down the right.
 const BOTH_SIDES: [Op; 5] = [
-    Op::UpSeries {
-        a: 0,
-        b: 3,
-        out: 4,
-    },
+    Op::UpSeries { a: 0, b: 3, out: 4 },
     Op::UpParallel {
         a: 1,
         b: 2,
@@ -163,15 +121,41 @@ const BOTH_SIDES: [Op; 5] = [
     },
 ];
 
+// Whether the schedule of the network has these operations, these down slots of the elements, by their
+// numbers, and so many slots.
+fn has(
+    alloc: Global,
+    net: Net,
+    ops: &[Op],
+    downs: &[u16],
+    slot_count: usize,
+) -> Result<bool, AllocError> {
+    let schedule = compile(alloc, net)?;
+    let mut down_slots = Vec::new(alloc);
+    for elem in 0..schedule.net().element_count() as u32 {
+        down_slots.push(schedule.leaf_slots(elem).down)?;
+    }
+    Ok(schedule.ops() == ops
+        && down_slots.as_slice() == downs
+        && schedule.slot_count() == slot_count)
+}
+
 #[test]
-fn both_sides(rt: HostRuntime) -> Result<(), Fail> {
+fn schedules_by_hand(rt: HostRuntime) -> Result<(), Fail> {
     let alloc = rt.alloc();
+
+    let right = parallel(alloc, 8192, leaf(1, Kind::Cap), leaf(2, Kind::Res))?;
+    let net = Net::new(14, 5461, leaf(0, Kind::Src), right, Outlet::Load(2))?;
+    assert!(rt; has(alloc, net, ONE_JUNCTION.as_slice(), &[5, 7, 8], 9)?);
+
+    let below = parallel(alloc, 8192, leaf(1, Kind::Cap), leaf(2, Kind::Res))?;
+    let right = series(alloc, 10923, leaf(3, Kind::Ind), below)?;
+    let net = Net::new(14, 5461, leaf(0, Kind::Src), right, Outlet::Load(2))?;
+    assert!(rt; has(alloc, net, TWO_JUNCTIONS.as_slice(), &[7, 11, 12, 9], 13)?);
+
     let left = series(alloc, 10923, leaf(0, Kind::Src), leaf(3, Kind::Ind))?;
     let right = parallel(alloc, 8192, leaf(1, Kind::Cap), leaf(2, Kind::Res))?;
     let net = Net::new(14, 5461, left, right, Outlet::Load(2))?;
-    let schedule = compile(alloc, net)?;
-    assert!(rt; schedule.ops() == BOTH_SIDES.as_slice());
-    assert!(rt; down_slots(alloc, &schedule)?.as_slice() == [11, 9, 10, 12].as_slice());
-    assert_eq!(rt; schedule.slot_count(), 13);
+    assert!(rt; has(alloc, net, BOTH_SIDES.as_slice(), &[11, 9, 10, 12], 13)?);
     Ok(())
 }
