@@ -1,5 +1,5 @@
 -- What holds of each operation of a list, and the order of its writes, by the parts of the list.
-use Rattle.std.proofs.Common.{◌≡◌, ℕ, ◌+◌, List, [], ◌∷◌, ◌++◌, subst, sym, ◌≤◌, arith}
+use Rattle.std.proofs.Common.{ℕ, ◌+◌, List, [], ◌∷◌, ◌++◌, subst, sym, ◌≤◌, arith}
 use Rattle.wdf_sched.specs.declared.op.Op.{Op}
 use Rattle.wdf_sched.specs.Operations.{Each, InOrder, written_by}
 

@@ -1,9 +1,8 @@
 -- The operations of a network are in order, and their slots are few.
-use Rattle.std.proofs.Common.{◌≡◌, ℕ, ◌+◌, ◌*◌, ◌<◌, ◌≤◌, Bool, true, false, if◌then◌else◌, List, [], ◌∷◌, ◌++◌, length, refl, subst, arith, length-append}
+use Rattle.std.proofs.Common.{◌≡◌, ℕ, ◌+◌, ◌*◌, ◌<◌, ◌≤◌, Bool, true, false, if◌then◌else◌, [], ◌∷◌, ◌++◌, length, refl, subst, arith, length-append}
 use Rattle.wdf_law.specs.Trees.{AdaptorTree, leaf, series, parallel, elements_of}
 use Rattle.wdf_law.specs.Network.{has_leaf}
-use Rattle.wdf_sched.specs.declared.op.Op.{Op}
-use Rattle.wdf_sched.specs.declared.op.Op.TheVariants.{UpSeries, UpParallel, Root, DownSeries, DownParallel}
+use Rattle.wdf_sched.specs.declared.op.Op.TheVariants.{UpSeries, UpParallel, Root}
 use Rattle.wdf_sched.specs.Operations.{InOrder}
 use Rattle.wdf_sched.specs.Compiled.{IsBelow, rise, up_slot, up_ops, fall, down_ops, leaf_slot, root_slot, all_ops, all_slots, down_slot}
 use Rattle.wdf_sched.proofs.ListLemmas.{in_order}

@@ -1,18 +1,14 @@
 -- What is made of a network is a schedule of it.
-use Rattle.std.proofs.Common.{◌≡◌, ℕ, ◌+◌, ◌<◌, ◌≤◌, List, length, map, refl, ap, sym, ◌∙◌, subst, arith}
-use Rattle.std.specs.Prelude.{ℤ}
-use Rattle.std.specs.List.{range_with_len}
+use Rattle.std.proofs.Common.{◌≡◌, ℕ, ◌<◌, length, refl, ap, sym, ◌∙◌, subst, arith}
 use Rattle.std.proofs.lemmas.List.FromFn.{get_or-map-range_with_len, length-map-range_with_len}
-use Rattle.wdf_law.specs.Network.{Network, IsNetwork, unit_of, elements, has_element}
+use Rattle.wdf_law.specs.Network.{Network, IsNetwork, unit_of, elements}
 use Rattle.wdf_law.specs.TreeRules.{HasNumbers, HasSoundTrees}
 use Rattle.wdf_law.specs.Laws.{HasOneStep}
-use Rattle.wdf_law.specs.Step.{Frame, IsStep, sent_in}
+use Rattle.wdf_law.specs.Step.{Frame, sent_in}
 use Rattle.wdf_law.specs.Run.{states}
 use Rattle.wdf_law.specs.Solved.{solved}
-use Rattle.wdf_sched.specs.Operations.{Slots, HoldAll, AreWithin}
-use Rattle.wdf_sched.specs.Meaning.{Starts, HasWavesWithin, slot_at, Computes}
-use Rattle.wdf_sched.specs.Schedules.{ScheduleValue, IsSchedule}
-use Rattle.wdf_sched.specs.Compiled.{IsBelow, all_slots, down_slot, ops_of, down_slots_of, schedule_of, IsMade}
+use Rattle.wdf_sched.specs.Meaning.{HasWavesWithin, slot_at, Computes}
+use Rattle.wdf_sched.specs.Compiled.{all_slots, down_slot, ops_of, down_slots_of, IsMade}
 use Rattle.wdf_sched.proofs.JunctionLemmas.{all-joined}
 use Rattle.wdf_sched.proofs.LeafLemmas.{is_below, in_first, in_second}
 use Rattle.wdf_sched.proofs.OrderLemmas.{all-order, down_slot-below, slots-few}

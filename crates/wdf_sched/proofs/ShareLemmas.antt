@@ -1,8 +1,7 @@
 -- The operations of a network have its multipliers.
-use Rattle.std.proofs.Common.{ℕ, ◌+◌, ◌<◌, ◌≤◌, List, [], ◌∷◌, ◌++◌}
+use Rattle.std.proofs.Common.{ℕ, ◌+◌, ◌<◌, ◌≤◌, [], ◌∷◌, ◌++◌}
 use Rattle.wdf_law.specs.Trees.{AdaptorTree, leaf, series, parallel}
 use Rattle.wdf_law.specs.TreeRules.{IsSound}
-use Rattle.wdf_sched.specs.declared.op.Op.{Op}
 use Rattle.wdf_sched.specs.declared.op.Op.TheVariants.{UpSeries, UpParallel, Root}
 use Rattle.wdf_sched.specs.Operations.{Each, HasShare}
 use Rattle.wdf_sched.specs.Compiled.{rise, up_slot, up_ops, fall, down_ops, root_slot, all_ops}

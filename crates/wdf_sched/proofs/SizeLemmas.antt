@@ -1,5 +1,5 @@
 -- Where no wave of a step exceeds a limit, no slot of an operation does.
-use Rattle.std.proofs.Common.{◌≡◌, ℕ, ◌+◌, ◌-◌, ◌*◌, ◌<◌, ◌≤◌, List, [], ◌∷◌, ◌++◌, ap, sym, ◌∙◌, subst, arith}
+use Rattle.std.proofs.Common.{◌≡◌, ℕ, ◌+◌, ◌-◌, ◌*◌, ◌<◌, ◌≤◌, [], ◌∷◌, ◌++◌, sym, ◌∙◌, subst, arith}
 use Rattle.std.specs.Prelude.{ℤ, pos, ◌+ℤ◌, ◌*ℤ◌, unsigned_abs}
 use Rattle.std.proofs.Math.Nat.{mul-le-mul_left}
 use Rattle.std.proofs.lemmas.Int.{unsigned_abs-mul}
@@ -8,13 +8,12 @@ use Rattle.wdf_algebra.specs.JunctionValues.{parallel_value}
 use Rattle.wdf_law.specs.Trees.{AdaptorTree, leaf, series, parallel}
 use Rattle.wdf_law.specs.TreeRules.{IsSound}
 use Rattle.wdf_law.specs.Solved.{ups, waves}
-use Rattle.wdf_sched.specs.declared.op.Op.{Op}
-use Rattle.wdf_sched.specs.declared.op.Op.TheVariants.{UpSeries, UpParallel, Root, DownSeries, DownParallel}
+use Rattle.wdf_sched.specs.declared.op.Op.TheVariants.{UpSeries, UpParallel, Root}
 use Rattle.wdf_sched.specs.Operations.{Slots, HoldAll, IsAtMost, IsWithin, AreWithin}
 use Rattle.wdf_sched.specs.Meaning.{Reflects, HasWavesWithin}
 use Rattle.wdf_sched.specs.Compiled.{rise, up_slot, up_ops, fall, down_ops, root_slot, all_ops}
 use Rattle.wdf_sched.proofs.ListLemmas.{both, behind}
-use Rattle.wdf_sched.proofs.WaveLemmas.{up-shown, parts_up, Parts, series_parts, parallel_parts, series_first_down, series_second_down, parallel_first_down, parallel_second_down, Halves, halves, root_down}
+use Rattle.wdf_sched.proofs.WaveLemmas.{up-shown, parts_up, series_parts, parallel_parts, series_first_down, series_second_down, parallel_first_down, parallel_second_down, halves, root_down}
 
 sum-abs : (a b : ℤ) → unsigned_abs (a +ℤ b) ≤ unsigned_abs a + unsigned_abs b
 sum-abs a b = omega (arith, ints)

@@ -1,13 +1,13 @@
 -- The values with which a step begins.
-use Rattle.std.proofs.Common.{◌≡◌, ℕ, ◌<◌, Bool, true, false, ◌==◌, if◌then◌else◌, ◌++◌, length, refl, ap, ◌∙◌}
-use Rattle.std.specs.Prelude.{ℤ, pos}
+use Rattle.std.proofs.Common.{◌≡◌, ℕ, Bool, true, if◌then◌else◌, length, refl, ap, ◌∙◌}
+use Rattle.std.specs.Prelude.{ℤ}
 use Rattle.wdf_law.specs.Trees.{AdaptorTree, leaf, series, parallel}
-use Rattle.wdf_law.specs.Network.{Network, unit_of, elements, has_leaf}
+use Rattle.wdf_law.specs.Network.{unit_of, elements, has_leaf}
 use Rattle.wdf_law.specs.TreeRules.{AreDisjoint, HasDistinctLeaves, HasNumbers}
 use Rattle.wdf_law.specs.Solved.{reflected}
 use Rattle.wdf_sched.specs.Operations.{Slots}
-use Rattle.wdf_sched.specs.Meaning.{Reflects, Starts}
-use Rattle.wdf_sched.specs.Carrying.{AgreeBelow, HasValues}
+use Rattle.wdf_sched.specs.Meaning.{Reflects}
+use Rattle.wdf_sched.specs.Carrying.{HasValues}
 use Rattle.wdf_sched.specs.Schedules.{ScheduleValue, IsSchedule}
 use Rattle.wdf_sched.proofs.LeafLemmas.{in_first, in_second, own_leaf}
 use Rattle.wdf_sched.proofs.RunLemmas.{run-holds, run-agrees}

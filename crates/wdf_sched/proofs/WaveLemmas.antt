@@ -1,5 +1,5 @@
 -- Where the slots hold what the operations of a tree write, they hold the solved waves of the step.
-use Rattle.std.proofs.Common.{◌≡◌, ℕ, ◌+◌, ◌-◌, ◌<◌, Bool, true, false, ◌||◌, ◌==◌, if◌then◌else◌, List, [], ◌∷◌, ◌++◌, refl, ap, sym, ◌∙◌}
+use Rattle.std.proofs.Common.{◌≡◌, ℕ, ◌+◌, ◌-◌, ◌<◌, Bool, true, false, ◌||◌, ◌==◌, if◌then◌else◌, [], ◌∷◌, ◌++◌, refl, ap, sym, ◌∙◌}
 use Rattle.std.specs.Prelude.{ℤ, pos, ◌+ℤ◌}
 use Rattle.wdf_algebra.specs.JunctionValues.{series_value, series_part, parallel_value, parallel_part, root_value}
 use Rattle.wdf_algebra.specs.Truncation.{trunc}
@@ -9,8 +9,8 @@ use Rattle.wdf_law.specs.Network.{has_element, has_leaf}
 use Rattle.wdf_law.specs.Step.{sent}
 use Rattle.wdf_law.specs.Solved.{ups, waves}
 use Rattle.wdf_sched.specs.declared.op.Op.{Op}
-use Rattle.wdf_sched.specs.declared.op.Op.TheVariants.{UpSeries, UpParallel, Root}
-use Rattle.wdf_sched.specs.Operations.{Slots, Each, Holds, HoldAll, parallel_rest}
+use Rattle.wdf_sched.specs.declared.op.Op.TheVariants.{Root}
+use Rattle.wdf_sched.specs.Operations.{Slots, Holds, HoldAll, parallel_rest}
 use Rattle.wdf_sched.specs.Meaning.{Reflects}
 use Rattle.wdf_sched.specs.Compiled.{rise, up_slot, up_ops, fall, down_ops, leaf_slot, root_slot, all_ops, down_slot}
 use Rattle.wdf_sched.proofs.ListLemmas.{front, back}

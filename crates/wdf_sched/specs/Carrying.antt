@@ -2,7 +2,7 @@
 use Rattle.std.specs.Prelude.{◌≡◌, ℕ, ◌-◌, ◌<◌, ℤ, ◌+ℤ◌, ◌==◌, if◌then◌else◌, List, [], ◌∷◌, length}
 use Rattle.wdf_algebra.specs.JunctionValues.{series_part, parallel_value, root_value}
 use Rattle.wdf_algebra.specs.Truncation.{trunc}
-use Rattle.wdf_law.specs.Network.{Network, unit_of, elements}
+use Rattle.wdf_law.specs.Network.{unit_of, elements}
 use Rattle.wdf_sched.specs.declared.op.Op.{Op}
 use Rattle.wdf_sched.specs.declared.op.Op.TheVariants.{UpSeries, UpParallel, Root, DownSeries, DownParallel}
 use Rattle.wdf_sched.specs.Operations.{Slots, HoldAll, parallel_rest}

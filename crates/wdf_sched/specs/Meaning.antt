@@ -1,6 +1,6 @@
 -- That operations compute the step of a network: where the elements' up slots hold what the elements reflect, and the
 -- slots hold what each operation writes, the values are waves of the reference step.
-use Rattle.std.specs.Prelude.{◌≡◌, ℕ, ◌+◌, ◌<◌, ◌≤◌, ℤ, List, length, slice_index_or}
+use Rattle.std.specs.Prelude.{◌≡◌, ℕ, ◌<◌, ℤ, List, length, slice_index_or}
 use Rattle.wdf_law.specs.Trees.{AdaptorTree, leaf, series, parallel}
 use Rattle.wdf_law.specs.Network.{Network, unit_of, elements}
 use Rattle.wdf_law.specs.Step.{Waves, ends, forks, Frame, IsStep, sent_in}

@@ -135,9 +135,11 @@ fn has(
     for elem in 0..schedule.net().element_count() as u32 {
         down_slots.push(schedule.leaf_slots(elem).down)?;
     }
-    Ok(schedule.ops() == ops
-        && down_slots.as_slice() == downs
-        && schedule.slot_count() == slot_count)
+    Ok(
+        schedule.ops() == ops
+            && down_slots.as_slice() == downs
+            && schedule.slot_count() == slot_count,
+    )
 }
 
 #[test]

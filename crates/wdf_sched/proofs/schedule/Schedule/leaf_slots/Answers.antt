@@ -1,5 +1,5 @@
 -- An element's number is below the count of the slots.
-use Rattle.std.proofs.Common.{ℕ, ◌<◌, ◌≤◌, length, sym, subst, arith}
+use Rattle.std.proofs.Common.{ℕ, ◌<◌, length, sym, subst, arith}
 use Rattle.wdf_law.specs.Network.{elements}
 use Rattle.wdf_sched.specs.Schedules.{ScheduleValue, IsSchedule}
 use Rattle.wdf_sched.proofs.ListLemmas.{grows}
