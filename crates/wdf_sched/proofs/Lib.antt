@@ -7,4 +7,5 @@ pub mod ScheduleLemmas
 pub mod ShareLemmas
 pub mod SizeLemmas
 pub mod StartLemmas
+pub mod SumLemmas
 pub mod WaveLemmas

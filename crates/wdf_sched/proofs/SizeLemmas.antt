@@ -15,7 +15,7 @@ use Rattle.wdf_sched.specs.Compiled.{rise, up_slot, up_ops, fall, down_ops, root
 use Rattle.wdf_sched.proofs.ListLemmas.{both, behind}
 use Rattle.wdf_sched.proofs.WaveLemmas.{up-shown, parts_up, series_parts, parallel_parts, series_first_down, series_second_down, parallel_first_down, parallel_second_down, halves, root_down}
 
-sum-abs : (a b : ℤ) → unsigned_abs (a +ℤ b) ≤ unsigned_abs a + unsigned_abs b
+pub sum-abs : (a b : ℤ) → unsigned_abs (a +ℤ b) ≤ unsigned_abs a + unsigned_abs b
 sum-abs a b = omega (arith, ints)
 
 -- two shares that make up q, of waves within the limit

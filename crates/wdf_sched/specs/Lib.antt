@@ -5,3 +5,4 @@ pub mod Meaning
 pub mod Operations
 pub mod ScheduleCode
 pub mod Schedules
+pub mod Sums

@@ -55,6 +55,17 @@ IsWithin q limit v (DownParallel a b d raw x y) =
 abbrev pub AreWithin : ℕ → ℕ → Slots → List Op → Type 0
 AreWithin q limit v ops = Each (IsWithin q limit v) ops
 
+-- the values that the operation forms before it truncates any are at most this
+abbrev pub FormsWithin : ℕ → ℕ → Slots → Op → Type 0
+FormsWithin q most v (UpSeries a b out) = IsAtMost most (v a +ℤ v b)
+FormsWithin q most v (UpParallel a b m raw out) = IsAtMost most (parallel_value m (q - m) (v a) (v b))
+FormsWithin q most v (Root a b m x y) =
+    IsAtMost most (root_value q m (q - m) (v a) (v b) (v a)) × IsAtMost most (root_value q m (q - m) (v a) (v b) (v b))
+FormsWithin q most v (DownSeries a b d m x y) =
+    IsAtMost most (series_part q m (v a) (v b) (v d) (v a)) × IsAtMost most (series_part q (q - m) (v a) (v b) (v d) (v b))
+FormsWithin q most v (DownParallel a b d raw x y) =
+    IsAtMost most (parallel_rest q (v raw) (v d) (v a)) × IsAtMost most (parallel_rest q (v raw) (v d) (v b))
+
 -- the operation's multiplier, where it has one, is in 1..=q-1
 abbrev pub HasShare : ℕ → Op → Type 0
 HasShare q (UpSeries a b out) = Unit {0}

@@ -1,6 +1,7 @@
 //! What the definitions of `specs/` imply: each function is a law, whose contract is proved and
 //! whose body is empty.
 ghost use Rattle.wdf_sched.specs.Carrying.{HasValues};
+ghost use Rattle.wdf_sched.specs.Sums.{HasSmallSums};
 
 use crate::Schedule;
 
@@ -12,4 +13,12 @@ pub fn values(schedule: &Schedule)
 {
     schedule.rules();
     wdf_law::laws::numbers(schedule.net());
+}
+
+/// Where no wave in the slots of the operations is above a limit, and no raw one above q times it, no
+/// value that an operation forms before truncation is above four times q times the limit.
+pub fn sums(schedule: &Schedule)
+    ensures { HasSmallSums schedule.now }
+{
+    schedule.rules();
 }
