@@ -1,8 +1,8 @@
 /// One operation of a schedule. It reads the values of some slots and writes those of others.
 ///
-/// Each slot holds a wave, in units of 2^-guard of a sample, but for `raw`, which holds a wave
-/// before it is truncated, counted in 1/q. The multiplier `m` is counted in 1/q too; q is 2^k, with
-/// the width k of the network. `trunc(z)` is z / q without its fraction.
+/// Each slot holds a wave, in the unit of the sources' values, but for `raw`, which holds a wave
+/// before it is truncated, counted in 1/q of that unit. The multiplier `m` is counted in 1/q too; q
+/// is 2^k, with the width k of the network. `trunc(z)` is z / q without its fraction.
 #[derive(Clone, Copy, Debug, PartialEq, Eq)]
 pub enum Op {
     /// A series junction on the way up. `a` and `b` are the waves that its first and its second
