@@ -20,11 +20,12 @@ use Rattle.wdf_design.specs.Realising.{RealisesEach}
 use Rattle.wdf_made.specs.Ladder.{circuit_with, made_netlist, made_value}
 use Rattle.wdf_stages.specs.declared.bound_stop.BoundStop.{BoundStop}
 use Rattle.wdf_stages.specs.declared.bound_stop.BoundStop.TheVariants as bounds
-use Rattle.wdf_stages.specs.Bounding.{BoundRefuses}
+use Rattle.wdf_stages.specs.declared.plan_bounds.PlanBounds.{PlanBounds}
+use Rattle.wdf_stages.specs.Bounding.{AreBounded, BoundRefuses}
 use Rattle.wdf_made.specs.LadderLaws.{HasShape}
 use Rattle.wdf_soak.specs.declared.soak_stop.SoakStop.{SoakStop}
 use Rattle.wdf_soak.specs.declared.soak_stop.SoakStop.TheVariants.{PortRange, Bound, NoMemory}
-use Rattle.wdf_soak.specs.Soaks.{LadderRefuses, SoakRefuses, WordsRefuse, stop_of_words, usual_plan}
+use Rattle.wdf_soak.specs.Soaks.{IsSoaked, IsSummary, LadderRefuses, SoakRefuses, WordsRefuse, stop_of_words, usual_plan}
 
 -- a ratio out of range is no core
 ranged : (side : Side) (first : Option (ℕ × Bool)) (n : Network) (at : Side) (element : ℕ) (core : List Arc)
@@ -51,13 +52,28 @@ words_told n ns plan (bounds.Bound side name ratio need limit) same h =
 words_told n ns plan bounds.NoMemory same h = tt
 
 -- what refuses a stage refuses the soak
-pub ladder_refuses : (seed order : ℕ) (stop : SoakStop) → LadderRefuses (made_netlist seed order) stop → SoakRefuses seed order stop
-ladder_refuses seed order (PortRange side name low) h = h
-ladder_refuses seed order (Bound side name ratio need limit) h = absurd h
-ladder_refuses seed order NoMemory h = tt
+pub ladder_refuses : (seed order : ℕ) (n : NetlistValue) (stop : SoakStop) → n ≡ made_netlist seed order → LadderRefuses n stop → SoakRefuses seed order stop
+ladder_refuses seed order n (PortRange side name low) same h = subst (λ (m : NetlistValue). LadderRefuses m (PortRange side name low)) same h
+ladder_refuses seed order n (Bound side name ratio need limit) same h = absurd h
+ladder_refuses seed order n NoMemory same h = tt
 
-pub words_refuse : (seed order : ℕ) (ns : Networks) (stop : SoakStop) → IsDesigned (made_netlist seed order) usual_plan.k ns → WordsRefuse (made_netlist seed order) ns stop
+pub words_refuse : (seed order : ℕ) (n : NetlistValue) (ns : Networks) (stop : SoakStop) → n ≡ made_netlist seed order → IsDesigned n usual_plan.k ns → WordsRefuse n ns stop
     → SoakRefuses seed order stop
-words_refuse seed order ns (PortRange side name low) designed h = absurd h
-words_refuse seed order ns (Bound side name ratio need limit) designed h = (ns, designed, h)
-words_refuse seed order ns NoMemory designed h = tt
+words_refuse seed order n ns (PortRange side name low) same designed h = absurd h
+words_refuse seed order n ns (Bound side name ratio need limit) same designed h = (
+  ns,
+  subst (λ (m : NetlistValue). IsDesigned m usual_plan.k ns) same designed,
+  subst (λ (m : NetlistValue). WordsRefuse m ns (Bound side name ratio need limit)) same h,
+)
+words_refuse seed order n ns NoMemory same designed h = tt
+
+-- and what its stages give is the soak's
+pub is_soaked : (seed order frames : ℕ) (n : NetlistValue) (ns : Networks) (b : PlanBounds) (text : List ℕ) → n ≡ made_netlist seed order → IsDesigned n usual_plan.k ns
+    → AreBounded ns usual_plan b → IsSummary seed order frames ns text → IsSoaked seed order frames text
+is_soaked seed order frames n ns b text same designed bounded summary = record {
+  networks = ns;
+  designed = subst (λ (m : NetlistValue). IsDesigned m usual_plan.k ns) same designed;
+  bounds = b;
+  bounded = bounded;
+  summary = summary;
+}

@@ -142,11 +142,11 @@ fn data_in(wave: &[u8]) -> &[u8]
     requires { 44 ≤ length wave.now }
     ensures { result.now ≡ drop 44 wave.now }
 {
-    &wave[44..]
+    wave.split_at(44).1
 }
 
 // The summary of a run that is done, and of the wave that it wrote.
-#[tactic(auto, using(crate::proofs::TellLemmas::head_long, crate::proofs::TellLemmas::has_totals))]
+#[tactic(auto, using(crate::proofs::TellLemmas::has_totals))]
 fn tell_run(
     alloc: Global,
     seed: u64,
@@ -204,6 +204,7 @@ fn run_ladder(
 /// `PortRange` exactly where a ratio of the ladder is out of range, and else `Bound` exactly where the
 /// plan does not fit its network, each as the stages of a run answer it; `NoMemory` where no memory is
 /// left.
+#[tactic(auto, using(crate::proofs::LadderLemmas::is_soaked, crate::proofs::LadderLemmas::ladder_refuses, crate::proofs::LadderLemmas::words_refuse))]
 pub fn soak(alloc: Global, seed: u64, order: u8, frames: u32) -> Result<Vec<u8>, SoakStop>
     requires some_order { 1 ≤ order }
     requires few_orders { order ≤ MAX_ORDER }

@@ -4,10 +4,14 @@ use Rattle.wdf_lattice.specs.declared.networks.Networks.{Networks}
 use Rattle.wdf_lattice.specs.Sides.{network_at}
 use Rattle.wdf_wav.specs.PcmStream.{samples_of}
 use Rattle.wdf_frames.specs.RunStates.{limited_by, setting_of, totals_by}
+use Rattle.wdf_made.specs.Wave.{made_data}
 use Rattle.wdf_soak.specs.Figures.{figures_of, output_samples}
 use Rattle.wdf_soak.specs.Summary.{summary_text}
-use Rattle.wdf_soak.proofs.TellLemmas.{is_summary}
+use Rattle.wdf_soak.proofs.TellLemmas.{head_long, is_summary}
 use Rattle.wdf_soak.proofs.soaking.tell_run.Goals as goal
+
+pub data_in-requires : goal.data_in-requires
+data_in-requires c = head_long (setting_of c.args.run.now) (made_data c.args.seed c.args.order c.args.frames) c.args.wave.now c.requires.written
 
 pub returns : goal.returns
 returns c =
