@@ -17,8 +17,6 @@ mod running;
 mod soak_stop;
 mod soaking;
 mod summarising;
-#[cfg(test)]
-mod tests;
 
 pub use figures::{Figures, figures_in};
 pub use soak_stop::SoakStop;
