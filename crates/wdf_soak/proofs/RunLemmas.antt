@@ -1,7 +1,6 @@
 -- A run on a whole wave stops at no frame, and writes the wave of all of them.
-use Rattle.std.proofs.Common.{◌≡◌, ℕ, ◌+◌, ◌<◌, List, [], ◌∷◌, ◌++◌, length, Option, Some, None, Result, Ok, Err, refl, sym, ap, ◌∙◌, subst, arith, append_assoc, append-nil, length-append}
+use Rattle.std.proofs.Common.{◌≡◌, ℕ, ◌+◌, List, [], ◌∷◌, ◌++◌, length, Option, Some, None, Ok, Err, refl, sym, ap, ◌∙◌, subst, arith, append_assoc, append-nil, length-append}
 use Rattle.std.specs.Prelude.{ℤ}
-use Rattle.wdf_io.specs.Causes.{Rose}
 use Rattle.wdf_law.specs.declared.side.Side.{Side}
 use Rattle.wdf_energy.specs.declared.totals.Totals.{Totals}
 use Rattle.wdf_frames.specs.declared.frame_stop.FrameStop.TheVariants.{Amplitude, Truncated}
@@ -23,10 +22,6 @@ pub record IsWholeWave (s : Setting) (body : List ℕ) : Type 0 where
 
 whole_end : (s : Setting) (body : List ℕ) → IsWholeWave s body → EndsWhole s body
 whole_end s body w = record { body = body; more = []; whole = sym (append-nil body); size = w.size; within = w.within }
-
--- a source that never fails has no fault
-pub never_faulty : Rose 0 0 → ⊥
-never_faulty h = absurd (omega arith)
 
 pub never_over : HasOneEnd → (s : Setting) (body left : List ℕ) → IsWholeWave s body → left ≡ body → (frame channel : ℕ) (sample : ℤ) (left' written written' : Option (List ℕ))
     → StopsOver s frame channel sample (Some left) left' written written' → ⊥

@@ -1,5 +1,5 @@
 -- What is told of a run on a made wave is its summary.
-use Rattle.std.proofs.Common.{◌≡◌, ℕ, ◌+◌, ◌<◌, ◌≤◌, Bool, true, false, if◌then◌else◌, List, ◌++◌, length, replicate, Option, Some, refl, sym, ap, ◌∙◌, subst, arith, length-append}
+use Rattle.std.proofs.Common.{◌≡◌, ℕ, ◌<◌, ◌≤◌, Bool, true, false, if◌then◌else◌, List, length, replicate, Option, Some, refl, sym, ap, ◌∙◌, subst, arith, length-append}
 use Rattle.std.specs.Prelude.{◌==◌, IsSome}
 use Rattle.wdf_law.specs.declared.side.Side.{Side}
 use Rattle.wdf_law.specs.declared.side.Side.TheVariants.{Whole}
@@ -10,9 +10,7 @@ use Rattle.wdf_lattice.specs.Sides.{network_at, run_count, sources_driven}
 use Rattle.wdf_wav.specs.declared.head.Head.{Head}
 use Rattle.wdf_wav.specs.Header.{head_bytes_of, pad_size}
 use Rattle.wdf_frames.specs.Setting.{Setting, runs_of, written_head}
-use Rattle.wdf_frames.specs.declared.wave_run.WaveRun.{WaveRun}
 use Rattle.wdf_frames.specs.RunFacts.{TellsRun}
-use Rattle.wdf_frames.specs.RunStates.{IsReady, setting_of}
 use Rattle.wdf_frames.specs.Written.{IsWritten, coded}
 use Rattle.wdf_reporting.specs.Findings.{IsFinding}
 use Rattle.wdf_made.specs.Wave.{made_data}
@@ -80,11 +78,3 @@ is_summary seed order frames ns certified s wave clipped ledger n totals text se
       account = account;
       summary = summary;
     }
-
--- ---- a run and its networks
-
-pub ready_again : (ns : Networks) (frames : ℕ) (run : WaveRun) → IsReady (made_setting ns frames) run → IsReady (made_setting (setting_of run).networks frames) run
-ready_again ns frames run h = subst (λ (m : Networks). IsReady (made_setting m frames) run) (sym (ap (λ (s : Setting). s.networks) h.set)) h
-
-pub set_again : (ns : Networks) (frames : ℕ) (s : Setting) → s ≡ made_setting ns frames → s ≡ made_setting s.networks frames
-set_again ns frames s h = h ∙ ap (λ (x : Setting). made_setting x.networks frames) (sym h)
