@@ -1,5 +1,6 @@
 pub mod Cancelling
 pub mod Congruences
+pub mod FloorLemmas
 pub mod LinearCombinations
 pub mod ParallelJunction
 pub mod PieceLemmas

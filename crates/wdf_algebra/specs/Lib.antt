@@ -1,3 +1,4 @@
+pub mod Floors
 pub mod JunctionValues
 pub mod Pieces
 pub mod Residues

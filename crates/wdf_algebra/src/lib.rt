@@ -3,6 +3,8 @@
 //! rest their laws, and the range of a sample.
 #![tactic(auto)]
 
+mod floor;
 mod words;
 
+pub use floor::{Floor, floored};
 pub use words::{quotient, times};
