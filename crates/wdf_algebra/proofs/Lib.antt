@@ -1,11 +1,12 @@
 pub mod Cancelling
 pub mod Congruences
-pub mod FloorLemmas
 pub mod LinearCombinations
+pub mod MaskLemmas
 pub mod ParallelJunction
 pub mod PieceLemmas
 pub mod Polynomials
 pub mod RingLaws
 pub mod RootJunction
+pub mod RoundingLemmas
 pub mod SeriesJunction
 pub mod Truncations

@@ -1,0 +1,16 @@
+use Rattle.std.proofs.Common.{rules, w64, ap, ◌∙◌}
+use Rattle.std.specs.Prelude.{ℤ, pos, ◌-ℤ◌}
+use Rattle.std.proofs.lemmas.Int.{to_z-of_z}
+use mir.Val.{SFits}
+use Rattle.wdf_algebra.specs.Truncation.{trunc}
+use Rattle.wdf_algebra.proofs.RoundingLemmas.{root-same}
+use Rattle.wdf_algebra.proofs.parts.root_part.Goals as goal
+
+pub returns : goal.returns
+returns c q z f =
+    let f1 : SFits w64 c.args.u = c.ranges.u in
+    let f2 : SFits w64 (pos 0 -ℤ c.args.u) = search rules in
+    let f9 : SFits w64 c.truncated.result = record { sfits = c.truncated.type_inv } in
+    let more = simp to_z-of_z at (c.above.ensures q z f) in
+    let whole = c.truncated.ensures q _ more in
+    simp to_z-of_z (whole ∙ ap (λ (a : ℤ). trunc a q) (root-same q c.args.u z))
