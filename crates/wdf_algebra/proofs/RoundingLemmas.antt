@@ -1,11 +1,14 @@
 -- Quotients rounded both ways, and what they say of truncation.
 use Rattle.std.proofs.Common.{◌≡◌, ℕ, zero, suc, ◌+◌, ◌-◌, ◌*◌, ◌/◌, ◌%◌, ◌<◌, refl, sym, ap, ◌∙◌, arith, true, false, [], ◌∷◌}
 use Rattle.std.proofs.lemmas.Nat.{div-mul-add}
-use Rattle.std.proofs.Math.Nat.{div-add-mod, mod-lt}
+use Rattle.std.proofs.Math.Nat.{div-add-mod, mod-lt, mul-le-mul, mul-le-mul_left}
+use Rattle.std.proofs.lemmas.Bool.{cases_lt}
+use Rattle.std.specs.Prelude.{unsigned_abs}
+use mathlib.Core.Logic.{◌⊎◌, inl, inr}
 use lib.IntN.{ℤ, pos, negsuc, ◌+ℤ◌, ◌-ℤ◌, ◌*ℤ◌}
 use lib.Signed.{shr_z, lt_z}
 use mathlib.Core.Bool.{true≢false}
-use borrow.Author.Differences.{up, down, lt-true, same_in, product_is, sum_is_lem, neg_is}
+use borrow.Author.Differences.{ints, up, down, lt-true, same_in, abs_is, product_is, sum_is_lem, neg_is}
 use Rattle.wdf_algebra.specs.Roundings.{Rounds}
 use Rattle.wdf_algebra.specs.Truncation.{trunc}
 use Rattle.wdf_algebra.proofs.RingLaws.{linear}
@@ -98,6 +101,33 @@ shifts-round q z h =
           (record { by = con (pos 1); left = var 1 ⊕ var 2; right = var 0 ⊗ var 5 ⊕ var 3 } ∷ record { by = con (pos 1); left = var 4; right = var 2 ⊖ var 3 } ∷ []) (high.1, (missing, tt)) refl;
       under_less = left;
     }
+
+-- a multiple that is short of the next is no larger than what it is short of
+least_multiple : (q a c : ℕ) → 0 < q → q * c < a + q → c ≤ a
+least_multiple q a c h less = by_size q a c h less (cases_lt a c)
+  where
+    by_size : (q a c : ℕ) → 0 < q → q * c < a + q → (a < c) ⊎ (c ≤ a) → c ≤ a
+    by_size q a c h less (inl more) =
+        let large : q * (a + 1) ≤ q * c = mul-le-mul_left q (omega arith) in
+        let some : 1 * a ≤ q * a = mul-le-mul {n₁ = 1} {m₁ = a} {n₂ = q} {m₂ = a} (omega arith) (omega arith) in
+        absurd (omega arith)
+    by_size q a c h less (inr e) = e
+
+-- what is rounded is no larger than the number
+pub small-floor : (q : ℕ) (z floor ceiling : ℤ) → 0 < q → Rounds q z floor ceiling → unsigned_abs floor ≤ unsigned_abs z
+small-floor q z floor ceiling h f =
+    let less = f.over_less in
+    let p = product_is (pos q) floor in
+    least_multiple q (unsigned_abs z) (unsigned_abs floor) h (size z floor f.over less f.down p)
+  where
+    size : (z floor : ℤ) (over : ℕ) → over < q → z ≡ pos q *ℤ floor +ℤ pos over → (up (pos q *ℤ floor) ≡ q * up floor + 0 * down floor) × (down (pos q *ℤ floor) ≡ q * down floor + 0 * up floor)
+        → q * unsigned_abs floor < unsigned_abs z + q
+    size z (pos n) over less e p = omega (arith, ints, ap up e, ap down e, abs_is z, sum_is_lem (pos q *ℤ pos n) (pos over), p.0, p.1)
+    size z (negsuc n) over less e p = omega (arith, ints, ap up e, ap down e, abs_is z, sum_is_lem (pos q *ℤ negsuc n) (pos over), p.0, p.1)
+
+pub small-ceiling : (q : ℕ) (z floor ceiling : ℤ) → 0 < q → Rounds q z floor ceiling → unsigned_abs ceiling ≤ unsigned_abs z
+small-ceiling q z floor ceiling h f =
+    omega (arith, small-floor q (pos 0 -ℤ z) (pos 0 -ℤ ceiling) (pos 0 -ℤ floor) h (rounds-negated q z floor ceiling f), abs_is (pos 0 -ℤ z), abs_is z, abs_is ceiling, abs_is (pos 0 -ℤ ceiling), linear)
 
 -- ---- the values that junctions send, as whole units and one product
 pub parallel-same : (q : ℕ) (d u z : ℤ) → pos q *ℤ (d -ℤ u) +ℤ z ≡ pos q *ℤ d +ℤ z -ℤ pos q *ℤ u

@@ -11,7 +11,7 @@ pub record Rounds (q : ℕ) (z floor ceiling : ℤ) : Type 0 where
   pub up : z +ℤ pos under ≡ pos q *ℤ ceiling
   pub under_less : under < q
 
--- neither is over 2^61 in magnitude
+-- neither is over 2^62 in magnitude
 pub record IsSmall (r : Rounded) : Type 0 where
-  pub floor : unsigned_abs r.floor ≤ 2 ^ 61
-  pub ceiling : unsigned_abs r.ceiling ≤ 2 ^ 61
+  pub floor : unsigned_abs r.floor ≤ 2 ^ 62
+  pub ceiling : unsigned_abs r.ceiling ≤ 2 ^ 62

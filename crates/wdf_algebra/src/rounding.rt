@@ -1,5 +1,5 @@
 ghost use Rattle.std.specs.Prelude.{◌≡◌, ℕ, ◌≤◌, ◌<◌, ◌^◌, ◌+◌, ℤ, pos, ◌+ℤ◌, ◌-ℤ◌, ◌*ℤ◌, unsigned_abs};
-ghost use Rattle.wdf_algebra.specs.Roundings.{Rounds};
+ghost use Rattle.wdf_algebra.specs.Roundings.{IsSmall, Rounds};
 ghost use Rattle.wdf_algebra.specs.Truncation.{trunc};
 
 /// A number that is counted in units of `1/q`, rounded down and rounded up to whole units. Its sum
@@ -23,7 +23,8 @@ impl Rounded {
     pub fn by_power<const K: u32>(x: i64) -> Rounded
         requires few { K ≤ 20 }
         requires size { unsigned_abs x ≤ 2 ^ 62 }
-        ensures { Rounds (2 ^ K) x result.floor result.ceiling }
+        ensures rounds { Rounds (2 ^ K) x result.floor result.ceiling }
+        ensures small { IsSmall result }
     {
         Rounded {
             floor: x >> K,
