@@ -1,0 +1,11 @@
+pub mod JunctionLemmas
+pub mod LeafLemmas
+pub mod ListLemmas
+pub mod OrderLemmas
+pub mod RunLemmas
+pub mod ScheduleLemmas
+pub mod ShareLemmas
+pub mod SizeLemmas
+pub mod StartLemmas
+pub mod SumLemmas
+pub mod WaveLemmas
