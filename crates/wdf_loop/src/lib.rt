@@ -2,7 +2,10 @@
 //! that an output sample holds, and whether that limited it.
 #![tactic(auto)]
 
+mod cell;
 mod limited;
+mod share;
+mod sums;
 #[cfg(test)]
 mod tests;
 

@@ -1,0 +1,32 @@
+// Sums and products that fit.
+ghost use Rattle.std.specs.Prelude.{◌≡◌, ◌+◌, ◌*◌, ◌<◌, ◌≤◌, ◌^◌, pos, ◌+ℤ◌, ◌-ℤ◌, ◌*ℤ◌, unsigned_abs};
+ghost use Rattle.wdf_loop.specs.Cells.{IsWord};
+
+use wdf_algebra::times;
+
+pub(crate) fn plus(a: i64, b: i64) -> i64
+    requires { unsigned_abs a + unsigned_abs b < 2 ^ 63 }
+    ensures value { result ≡ a +ℤ b }
+    ensures size { unsigned_abs result ≤ unsigned_abs a + unsigned_abs b }
+{
+    a + b
+}
+
+pub(crate) fn minus(a: i64, b: i64) -> i64
+    requires { unsigned_abs a + unsigned_abs b < 2 ^ 63 }
+    ensures value { result ≡ a -ℤ b }
+    ensures size { unsigned_abs result ≤ unsigned_abs a + unsigned_abs b }
+{
+    a - b
+}
+
+/// m·z, where m is at most q.
+#[tactic(auto, using(crate::proofs::Sizes::share))]
+pub(crate) fn weighed<const K: u32>(m: u32, z: i64) -> i64
+    requires part { m ≤ 2 ^ K }
+    requires small { 2 ^ K * unsigned_abs z ≤ 2 ^ 62 }
+    ensures value { result ≡ pos m *ℤ z }
+    ensures size { unsigned_abs result ≤ 2 ^ K * unsigned_abs z }
+{
+    times(i64::from(m), z)
+}
