@@ -3,7 +3,10 @@
 #![tactic(auto)]
 
 mod cell;
+mod chain;
+mod feed;
 mod limited;
+mod mark;
 mod share;
 mod sums;
 #[cfg(test)]
