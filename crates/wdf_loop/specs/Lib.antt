@@ -1,3 +1,4 @@
 pub mod Cells
 pub mod Layouts
 pub mod Limiting
+pub mod Places

@@ -5,8 +5,10 @@
 mod cell;
 mod chain;
 mod feed;
+mod field;
 mod limited;
 mod mark;
+mod place;
 mod share;
 mod sums;
 #[cfg(test)]
