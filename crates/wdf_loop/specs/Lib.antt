@@ -1,4 +1,7 @@
 pub mod Cells
+pub mod Frames
 pub mod Layouts
 pub mod Limiting
 pub mod Places
+pub mod Rows
+pub mod Runs

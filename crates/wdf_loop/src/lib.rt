@@ -8,7 +8,9 @@ mod feed;
 mod field;
 mod limited;
 mod mark;
+mod passes;
 mod place;
+mod row;
 mod share;
 mod sums;
 #[cfg(test)]
