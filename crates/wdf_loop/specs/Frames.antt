@@ -76,10 +76,10 @@ pub record HasDowns (v : Values) (d : Cell) : Type 0 where
   pub down : d.down ≡ v.down
   pub onward : d.onward ≡ v.onward
 
--- up the chains before t
-pub record IsUp (root : ℕ) (shares : List Share) (chains : List Chain) (t : ℕ) (r : RunValues) (before cells : List (List Cell)) (c : ℕ) : Type 0 where
-  pub ups : (j : ℕ) → j < first_of chains t → HasUps (r.stage j) (cell_at cells j c)
-  pub raws : (j : ℕ) → j < first_of chains t → HasRaw (share_at shares j) (r.stage j) (cell_at cells j c)
+-- up the stages before `upto`, and fed by the chains before t
+pub record IsUp (root : ℕ) (shares : List Share) (chains : List Chain) (upto t : ℕ) (r : RunValues) (before cells : List (List Cell)) (c : ℕ) : Type 0 where
+  pub ups : (j : ℕ) → j < upto → HasUps (r.stage j) (cell_at cells j c)
+  pub raws : (j : ℕ) → j < upto → HasRaw (share_at shares j) (r.stage j) (cell_at cells j c)
   pub states : (j : ℕ) → j ≤ root → KeepsStates (cell_at before j c) (cell_at cells j c)
   pub fed : (j : ℕ) → j ≤ root → IsFed chains t j → (cell_at cells j c).fed ≡ (r.stage j).fed
 
@@ -91,31 +91,53 @@ pub record IsRisen (root : ℕ) (shares : List Share) (r : RunValues) (before ce
   pub fed : (j : ℕ) → j ≤ root → (cell_at cells j c).fed ≡ (r.stage j).fed
   pub wave : wave_in waves c ≡ (r.stage root).below
 
--- up all, and down those from the stage `from` on: the root has turned where none is left
+-- the root has turned
+pub record HasTurned (root : ℕ) (shares : List Share) (r : RunValues) (cells : List (List Cell)) (waves : List ℤ) (c : ℕ) : Type 0 where
+  pub ups : (j : ℕ) → j ≤ root → HasUps (r.stage j) (cell_at cells j c)
+  pub raws : (j : ℕ) → j < root → HasRaw (share_at shares j) (r.stage j) (cell_at cells j c)
+  pub downs : HasDowns (r.stage root) (cell_at cells root c)
+  pub wave : wave_in waves c ≡ (r.stage root).onward
+
+-- the numbers of a cell that the way down leaves and no other way makes
+pub record KeepsFed (c d : Cell) : Type 0 where
+  pub fed : d.fed ≡ c.fed
+  pub under : d.under ≡ c.under
+
+-- down the stages from `from` on, before is how the cells were when the root had turned
 pub record IsDown (root : ℕ) (shares : List Share) (from : ℕ) (r : RunValues) (before cells : List (List Cell)) (c : ℕ) : Type 0 where
   pub ups : (j : ℕ) → j ≤ root → HasUps (r.stage j) (cell_at cells j c)
   pub raws : (j : ℕ) → j < root → HasRaw (share_at shares j) (r.stage j) (cell_at cells j c)
   pub downs : (j : ℕ) → from ≤ j → j ≤ root → HasDowns (r.stage j) (cell_at cells j c)
-  pub under : (j : ℕ) → j ≤ root → (cell_at cells j c).under ≡ (cell_at before j c).under
+  pub kept : (j : ℕ) → j ≤ root → KeepsFed (cell_at before j c) (cell_at cells j c)
+
+-- the frame is done
+pub record IsDone (root : ℕ) (shares : List Share) (r : RunValues) (before cells : List (List Cell)) (c : ℕ) : Type 0 where
+  pub ups : (j : ℕ) → j ≤ root → HasUps (r.stage j) (cell_at cells j c)
+  pub raws : (j : ℕ) → j < root → HasRaw (share_at shares j) (r.stage j) (cell_at cells j c)
+  pub downs : (j : ℕ) → j ≤ root → HasDowns (r.stage j) (cell_at cells j c)
   pub fed : (j : ℕ) → j ≤ root → (cell_at cells j c).fed ≡ (r.stage j).fed
+  pub under : (j : ℕ) → j ≤ root → (cell_at cells j c).under ≡ (cell_at before j c).under
 
 -- so it is in each of `count` runs, whatever values are those of a frame that follows
 abbrev pub HaveRisenTo : ℕ → ℕ → ℕ → List Share → List Chain → ℕ → List (List Cell) → List (List Cell) → Type 0
 HaveRisenTo count q root shares chains t before cells =
-    (c : ℕ) → c < count → (r : RunValues) → IsRun q root shares chains r → Begins q root shares chains r before c → IsUp root shares chains t r before cells c
+    (c : ℕ) → c < count → (r : RunValues) → IsRun q root shares chains r → Begins q root shares chains r before c → IsUp root shares chains (first_of chains t) t r before cells c
 
 abbrev pub HaveRisen : ℕ → ℕ → ℕ → List Share → List Chain → List (List Cell) → List (List Cell) → List ℤ → Type 0
 HaveRisen count q root shares chains before cells waves =
     (c : ℕ) → c < count → (r : RunValues) → IsRun q root shares chains r → Begins q root shares chains r before c → IsRisen root shares r before cells waves c
 
-abbrev pub HaveTurned : ℕ → ℕ → ℕ → List Share → List Chain → List (List Cell) → List (List Cell) → List ℤ → Type 0
-HaveTurned count q root shares chains before cells waves =
-    (c : ℕ) → c < count → (r : RunValues) → IsRun q root shares chains r → Begins q root shares chains r before c
-    → IsDown root shares root r before cells c × (wave_in waves c ≡ (r.stage root).onward)
+abbrev pub AllHaveTurned : ℕ → ℕ → ℕ → List Share → List Chain → List (List Cell) → List ℤ → Type 0
+AllHaveTurned count q root shares chains cells waves =
+    (c : ℕ) → c < count → (r : RunValues) × IsRun q root shares chains r × HasTurned root shares r cells waves c
 
-abbrev pub HaveFallenTo : ℕ → ℕ → ℕ → List Share → List Chain → ℕ → List (List Cell) → List (List Cell) → Type 0
-HaveFallenTo count q root shares chains from before cells =
-    (c : ℕ) → c < count → (r : RunValues) → IsRun q root shares chains r → Begins q root shares chains r before c → IsDown root shares from r before cells c
+abbrev pub HaveFallenTo : ℕ → ℕ → ℕ → List Share → List Chain → ℕ → List (List Cell) → List ℤ → List (List Cell) → Type 0
+HaveFallenTo count q root shares chains from before held cells =
+    (c : ℕ) → c < count → (r : RunValues) → IsRun q root shares chains r → HasTurned root shares r before held c → IsDown root shares from r before cells c
+
+abbrev pub AreDone : ℕ → ℕ → ℕ → List Share → List Chain → List (List Cell) → List (List Cell) → Type 0
+AreDone count q root shares chains before cells =
+    (c : ℕ) → c < count → (r : RunValues) → IsRun q root shares chains r → Begins q root shares chains r before c → IsDone root shares r before cells c
 
 -- the signs of the elements at the bottoms
 abbrev pub AreSigns : List Chain → Type 0

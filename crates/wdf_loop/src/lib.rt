@@ -2,10 +2,13 @@
 //! that an output sample holds, and whether that limited it.
 #![tactic(auto)]
 
+mod ascent;
 mod cell;
 mod chain;
+mod descent;
 mod feed;
 mod field;
+mod frame;
 mod limited;
 mod mark;
 mod passes;
