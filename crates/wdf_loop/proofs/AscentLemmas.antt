@@ -7,11 +7,11 @@ use Rattle.wdf_loop.specs.declared.cell.Cell.{Cell}
 use Rattle.wdf_loop.specs.declared.chain.Chain.{Chain}
 use Rattle.wdf_loop.specs.declared.share.Share.{Share}
 use Rattle.wdf_loop.specs.Cells.{IsWord, bottom, fed_with}
-use Rattle.wdf_loop.specs.Frames.{AllRun, Begins, HasRaw, HasUps, HaveRisen, HaveRisenTo, IsFed, IsRisen, IsRun, IsUp, KeepsStates, RunValues, end_of, first_of, to_of}
+use Rattle.wdf_loop.specs.Frames.{AllRun, Begins, HasRaw, HasUps, HaveRisen, HaveRisenTo, IsFed, IsRun, IsUp, RunValues, end_of, first_of, to_of}
 use Rattle.wdf_loop.specs.Layouts.{IsRowOfChains, chain_at, share_at}
-use Rattle.wdf_loop.specs.Rows.{AllCanBegin, cell_in, wave_in}
+use Rattle.wdf_loop.specs.RunCells.{AllCanBegin, cell_in, wave_in}
 use Rattle.wdf_loop.specs.Runs.{AllCanAscend, CanAscend, CanClimb, HasRisen, HaveAscended, KeepsOthers, Values, cell_at, row_at}
-use Rattle.wdf_loop.proofs.ChainLemmas.{all-fed, chain-fed, end-root, first-end}
+use Rattle.wdf_loop.proofs.LineLemmas.{all-fed, chain-fed, end-root, first-end}
 use Rattle.wdf_loop.proofs.PassLemmas.{row_here, row_other}
 use Rattle.wdf_loop.proofs.Sizes.{rest-size}
 
@@ -47,10 +47,10 @@ can-ascend q root shares chains t r before cells c row h run begins up =
     let low : first_of chains t ≤ root = omega arith in record {
       climb = run.climbs t h;
       up = λ j least most.
-        let inside : j ≤ root = omega arith in
-        let fed = up.fed j inside (chain-fed root chains row t j most) in
-        let down = (up.states j inside).down in
-        (λ i. (share_at shares j).sign *ℤ down i +ℤ fed i) ∙ begins.up j inside;
+          let inside : j ≤ root = omega arith in
+          let fed = up.fed j inside (chain-fed root chains row t j most) in
+          let down = (up.states j inside).down in
+          (λ i. (share_at shares j).sign *ℤ down i +ℤ fed i) ∙ begins.up j inside;
       states = λ j least most. let inside : j ≤ root = omega arith in subst (IsWord q) (sym (up.states j inside).down) (begins.down j inside);
       below = (λ i. (chain_at chains t).sign *ℤ (up.states (first_of chains t) low).onward i +ℤ (up.states (first_of chains t) low).under i) ∙ begins.bottoms t h;
       state = subst (IsWord q) (sym (up.states (first_of chains t) low).onward) (begins.onward (first_of chains t) low);

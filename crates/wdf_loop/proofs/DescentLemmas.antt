@@ -7,10 +7,10 @@ use Rattle.wdf_loop.specs.declared.cell.Cell.{Cell}
 use Rattle.wdf_loop.specs.declared.chain.Chain.{Chain}
 use Rattle.wdf_loop.specs.declared.share.Share.{Share}
 use Rattle.wdf_loop.specs.Frames.{AllHaveTurned, HasDowns, HasRaw, HasTurned, HasUps, HaveFallenTo, IsDown, IsRun, KeepsFed, RunValues, end_of, first_of, to_of}
-use Rattle.wdf_loop.specs.Layouts.{IsRowOfChains, chain_at, share_at}
-use Rattle.wdf_loop.specs.Rows.{cell_in, wave_in}
-use Rattle.wdf_loop.specs.Runs.{AllCanDescend, CanDescend, HasFallen, HaveDescended, KeepsOthers, Values, cell_at, row_at}
-use Rattle.wdf_loop.proofs.ChainLemmas.{end-root, first-end}
+use Rattle.wdf_loop.specs.Layouts.{IsRowOfChains, share_at}
+use Rattle.wdf_loop.specs.RunCells.{cell_in, wave_in}
+use Rattle.wdf_loop.specs.Runs.{AllCanDescend, CanDescend, HasFallen, HaveDescended, KeepsOthers, cell_at}
+use Rattle.wdf_loop.proofs.LineLemmas.{end-root}
 
 -- the root has turned, and no chain is done
 pub down-none : (root : ℕ) (shares : List Share) (r : RunValues) (cells : List (List Cell)) (waves : List ℤ) (c : ℕ) → HasTurned root shares r cells waves c → IsDown root shares root r cells cells c

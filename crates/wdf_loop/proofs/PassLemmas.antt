@@ -1,5 +1,5 @@
 -- One stage more of a chain, on the way up and on the way down.
-use Rattle.std.proofs.Common.{◌≡◌, ℕ, ◌+◌, ◌-◌, ◌<◌, ◌≤◌, List, [], length, true, ap, sym, ◌∙◌, subst, arith}
+use Rattle.std.proofs.Common.{◌≡◌, ℕ, ◌+◌, ◌<◌, ◌≤◌, List, [], length, true, ap, sym, ◌∙◌, subst, arith}
 use Rattle.std.specs.Prelude.{ℤ, slice_set}
 use Rattle.std.proofs.lemmas.List.{get_or-set_same, get_or-set_other}
 use Rattle.std.proofs.lemmas.Bool.{cases_lt}
@@ -8,9 +8,9 @@ use Rattle.wdf_loop.specs.declared.cell.Cell.{Cell}
 use Rattle.wdf_loop.specs.declared.share.Share.{Share}
 use Rattle.wdf_loop.specs.Cells.{CanFall, CanRise, reflects}
 use Rattle.wdf_loop.specs.Layouts.{share_at}
-use Rattle.wdf_loop.specs.Rows.{AllCanFall, AllCanRise, Falls, InEach, Rises, cell_in, wave_in}
-use Rattle.wdf_loop.specs.Runs.{AllCanClimb, AllCanDescend, HasFallen, HasRisen, HaveClimbed, HaveDescended, IsShare, Values, cell_at, row_at}
-use Rattle.wdf_loop.proofs.StageLemmas.{can-fall, can-rise, fallen-shows, risen-shows}
+use Rattle.wdf_loop.specs.RunCells.{AllCanFall, AllCanRise, Falls, InEach, Rises, cell_in, wave_in}
+use Rattle.wdf_loop.specs.Runs.{AllCanClimb, AllCanDescend, HasFallen, HasRisen, HaveClimbed, HaveDescended, IsShare, cell_at, row_at}
+use Rattle.wdf_loop.proofs.CellLemmas.{can-fall, can-rise, fallen-shows, risen-shows}
 
 -- ---- the rows
 
@@ -78,7 +78,7 @@ climb_more count q shares first end j before cells held waves row waves' low hig
     let here : cell_at cells j c ≡ cell_at before j c = ap (λ (r : List Cell). cell_in r c) same in
     let up : reflects (share_at shares j) (cell_at cells j c) ≡ (v j).up = ap (reflects (share_at shares j)) here ∙ can.up j low high in
     let shown = risen-shows q (share_at shares j) (v j) (wave_in waves c) (cell_at cells j c) (cell_in row c) (wave_in waves' c) (can.climb.junctions j low high)
-        (now.1 ∙ can.climb.below j low high) up (each c h) in (
+    (now.1 ∙ can.climb.below j low high) up (each c h) in (
       stage_more (λ (i : ℕ) (d : Cell). HasRisen (share_at shares i) (v i) (cell_at before i c) d) first j c cells row inside now.0
           (subst (λ (b : Cell). HasRisen (share_at shares j) (v j) b (cell_in row c)) here shown.0),
       shown.1 ∙ sym (can.climb.out j low high),
@@ -106,7 +106,7 @@ descend_more count q shares first end j before cells held waves row waves' low h
     let here : cell_at cells j c ≡ cell_at before j c = ap (λ (r : List Cell). cell_in r c) same in
     let raw : (share_at shares j).parallel ≡ true → (cell_at cells j c).raw ≡ (v j).raw = λ e. ap (λ (x : Cell). x.raw) here ∙ can.raw j low high e in
     let shown = fallen-shows q (share_at shares j) (v j) (wave_in waves c) (cell_at cells j c) (cell_in row c) (wave_in waves' c) (can.descent.junctions j low high)
-        (ap (λ (x : Cell). x.up) here ∙ can.up j low high) (ap (λ (x : Cell). x.below) here ∙ can.below j low high) raw (now.1 ∙ can.descent.sent j low high) (each c h) in (
+    (ap (λ (x : Cell). x.up) here ∙ can.up j low high) (ap (λ (x : Cell). x.below) here ∙ can.below j low high) raw (now.1 ∙ can.descent.sent j low high) (each c h) in (
       stage_less (λ (i : ℕ) (d : Cell). HasFallen (v i) (cell_at before i c) d) j end c cells row inside now.0
           (subst (λ (b : Cell). HasFallen (v j) b (cell_in row c)) here shown.0),
       shown.1 ∙ sym (can.descent.onward j low high),

@@ -1,5 +1,5 @@
 -- The root between the way up and the way down, and a whole frame.
-use Rattle.std.proofs.Common.{◌≡◌, ℕ, ◌+◌, ◌<◌, ◌≤◌, List, length, refl, ap, sym, ◌∙◌, subst, arith}
+use Rattle.std.proofs.Common.{◌≡◌, ℕ, ◌<◌, ◌≤◌, List, length, ap, sym, ◌∙◌, subst, arith}
 use Rattle.std.specs.Prelude.{ℤ, ◌+ℤ◌, ◌*ℤ◌, slice_set}
 use Rattle.std.proofs.lemmas.Bool.{cases_lt}
 use mathlib.Core.Logic.{◌⊎◌, inl, inr}
@@ -8,10 +8,10 @@ use Rattle.wdf_algebra.specs.Truncation.{trunc}
 use Rattle.wdf_loop.specs.declared.cell.Cell.{Cell}
 use Rattle.wdf_loop.specs.declared.chain.Chain.{Chain}
 use Rattle.wdf_loop.specs.declared.share.Share.{Share}
-use Rattle.wdf_loop.specs.Cells.{CanRise, IsWord, reflects}
-use Rattle.wdf_loop.specs.Frames.{AllHaveTurned, AllRun, AreDone, Begins, HasRaw, HasTurned, HasUps, HaveFallenTo, HaveRisen, IsDone, IsRisen, IsRun, KeepsFed, RunValues}
+use Rattle.wdf_loop.specs.Cells.{IsWord, reflects}
+use Rattle.wdf_loop.specs.Frames.{AllHaveTurned, AllRun, AreDone, Begins, HasRaw, HasTurned, HasUps, HaveFallenTo, HaveRisen, IsRisen, IsRun, KeepsFed, RunValues}
 use Rattle.wdf_loop.specs.Layouts.{share_at}
-use Rattle.wdf_loop.specs.Rows.{AllCanRise, InEach, Turns, cell_in, wave_in}
+use Rattle.wdf_loop.specs.RunCells.{AllCanRise, InEach, Turns, cell_in, wave_in}
 use Rattle.wdf_loop.specs.Runs.{IsShare, cell_at, row_at}
 use Rattle.wdf_loop.proofs.PassLemmas.{row_here, row_other}
 use Rattle.wdf_loop.proofs.Sizes.{rest-size}

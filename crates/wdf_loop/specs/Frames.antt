@@ -1,12 +1,12 @@
 -- A frame of one run over all chains, as values, and what its passes leave in the cells.
-use Rattle.std.specs.Prelude.{◌≡◌, ℕ, ◌+◌, ◌<◌, ◌≤◌, ◌^◌, ℤ, ◌+ℤ◌, ◌*ℤ◌, unsigned_abs, true, List, length}
+use Rattle.std.specs.Prelude.{◌≡◌, ℕ, ◌+◌, ◌<◌, ◌≤◌, ℤ, ◌+ℤ◌, ◌*ℤ◌, unsigned_abs, true, List, length}
 use Rattle.wdf_loop.specs.declared.cell.Cell.{Cell}
 use Rattle.wdf_loop.specs.declared.chain.Chain.{Chain}
 use Rattle.wdf_loop.specs.declared.share.Share.{Share}
 use Rattle.wdf_loop.specs.Cells.{IsWord}
 use Rattle.wdf_loop.specs.Layouts.{chain_at, share_at}
-use Rattle.wdf_loop.specs.Rows.{wave_in}
-use Rattle.wdf_loop.specs.Runs.{HasRisen, IsClimb, IsDescent, IsRoot, Values, cell_at}
+use Rattle.wdf_loop.specs.RunCells.{wave_in}
+use Rattle.wdf_loop.specs.Runs.{IsClimb, IsDescent, IsRoot, Values, cell_at}
 
 -- the values of each stage, and of each chain t the waves in it, up and down
 pub record RunValues : Type 0 where

@@ -3,5 +3,6 @@ pub mod Frames
 pub mod Layouts
 pub mod Limiting
 pub mod Places
-pub mod Rows
+pub mod RunCells
 pub mod Runs
+pub mod Shows

@@ -1,15 +1,14 @@
 -- A frame of one run as values, stage by stage, and what the laws of junctions say of them. The passes up and down leave these
 -- values in the run's cells.
-use Rattle.std.specs.Prelude.{◌≡◌, ℕ, ◌+◌, ◌*◌, ◌<◌, ◌≤◌, ◌^◌, ◌⊎◌, ℤ, ◌+ℤ◌, ◌*ℤ◌, unsigned_abs, true, false, List, [], length, slice_index_or}
+use Rattle.std.specs.Prelude.{◌≡◌, ℕ, ◌+◌, ◌<◌, ◌≤◌, ◌⊎◌, ℤ, ◌+ℤ◌, unsigned_abs, true, false, List, [], length, slice_index_or}
 use Rattle.wdf_algebra.specs.JunctionValues.{series_part, parallel_value, root_value}
 use Rattle.wdf_algebra.specs.Truncation.{trunc}
 use Rattle.wdf_sched.specs.Operations.{parallel_rest}
 use Rattle.wdf_loop.specs.declared.cell.Cell.{Cell}
-use Rattle.wdf_loop.specs.declared.chain.Chain.{Chain}
 use Rattle.wdf_loop.specs.declared.share.Share.{Share}
 use Rattle.wdf_loop.specs.Cells.{IsWord, bottom, reflects}
 use Rattle.wdf_loop.specs.Layouts.{share_at}
-use Rattle.wdf_loop.specs.Rows.{cell_in, wave_in}
+use Rattle.wdf_loop.specs.RunCells.{cell_in, wave_in}
 
 -- the cells of a stage, and of one run
 abbrev pub row_at : List (List Cell) → ℕ → List Cell

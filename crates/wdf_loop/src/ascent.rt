@@ -7,7 +7,7 @@ ghost use Rattle.wdf_loop.specs.Runs.{AllCanAscend, AreShares, HaveAscended, Kee
 use crate::cell::Cell;
 use crate::chain::Chain;
 use crate::passes::climb;
-use crate::row;
+use crate::runs;
 use crate::share::Share;
 
 // Up a chain from the elements at its bottom: `waves` become what its top reflects.
@@ -30,7 +30,7 @@ fn ascend<const K: u32, const C: usize>(
     ensures others { KeepsOthers chain.first chain.end cells.old cells.new }
 {
     let first = chain.first as usize;
-    row::bottom::<K, C>(&cells[first], chain.sign, waves);
+    runs::bottom::<K, C>(&cells[first], chain.sign, waves);
     climb::<K, C>(shares, cells, first, chain.end as usize, waves);
 }
 
@@ -57,7 +57,7 @@ pub(crate) fn rise<const K: u32, const C: usize>(
     for t in 0..last {
         let chain = chains[t];
         ascend::<K, C>(shares, cells, chain, waves);
-        row::deliver::<C>(&mut cells[chain.to as usize], waves);
+        runs::deliver::<C>(&mut cells[chain.to as usize], waves);
     }
     ascend::<K, C>(shares, cells, chains[last], waves);
 }

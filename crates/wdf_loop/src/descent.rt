@@ -7,7 +7,7 @@ ghost use Rattle.wdf_loop.specs.Runs.{AreShares};
 use crate::cell::Cell;
 use crate::chain::Chain;
 use crate::passes::descend;
-use crate::row;
+use crate::runs;
 use crate::share::Share;
 
 /// Down all chains: the last from the root, which sends `waves`, and each other from the part
@@ -31,10 +31,22 @@ pub(crate) fn fall<const K: u32, const C: usize>(
 {
     let last = chains.len() - 1;
     let chain = chains[last];
-    descend::<K, C>(shares, cells, chain.first as usize, chain.end as usize, waves);
+    descend::<K, C>(
+        shares,
+        cells,
+        chain.first as usize,
+        chain.end as usize,
+        waves,
+    );
     for done in 0..last {
         let chain = chains[last - 1 - done];
-        row::collect::<C>(&cells[chain.to as usize], waves);
-        descend::<K, C>(shares, cells, chain.first as usize, chain.end as usize, waves);
+        runs::collect::<C>(&cells[chain.to as usize], waves);
+        descend::<K, C>(
+            shares,
+            cells,
+            chain.first as usize,
+            chain.end as usize,
+            waves,
+        );
     }
 }

@@ -8,7 +8,7 @@ use crate::ascent::rise;
 use crate::cell::Cell;
 use crate::chain::Chain;
 use crate::descent::fall;
-use crate::row;
+use crate::runs;
 use crate::share::Share;
 
 /// A frame from the states in the cells and what their parts are fed: the cells come to have its
@@ -32,6 +32,6 @@ pub(crate) fn frame<const K: u32, const C: usize>(
 {
     let mut waves = [0; C];
     rise::<K, C>(shares, chains, cells, root, &mut waves);
-    row::turn::<K, C>(&mut cells[root], shares[root], &mut waves);
+    runs::turn::<K, C>(&mut cells[root], shares[root], &mut waves);
     fall::<K, C>(shares, chains, cells, root, &mut waves);
 }

@@ -13,7 +13,7 @@ mod limited;
 mod mark;
 mod passes;
 mod place;
-mod row;
+mod runs;
 mod share;
 mod sums;
 #[cfg(test)]

@@ -3,7 +3,7 @@ ghost use Rattle.std.specs.Prelude.{◌≡◌, ◌≤◌, ◌^◌, length};
 ghost use Rattle.wdf_loop.specs.Runs.{AllCanClimb, AllCanDescend, AreShares, HaveClimbed, HaveDescended, KeepsOthers};
 
 use crate::cell::Cell;
-use crate::row;
+use crate::runs;
 use crate::share::Share;
 
 /// The stages `first..end` of a chain on the way up: `waves`, which the elements at its bottom
@@ -26,7 +26,7 @@ pub(crate) fn climb<const K: u32, const C: usize>(
     ensures others { KeepsOthers first end cells.old cells.new }
 {
     for j in first..end {
-        row::rise::<K, C>(&mut cells[j], shares[j], waves);
+        runs::rise::<K, C>(&mut cells[j], shares[j], waves);
     }
 }
 
@@ -52,6 +52,6 @@ pub(crate) fn descend<const K: u32, const C: usize>(
 {
     for done in 0..end - first {
         let j = end - 1 - done;
-        row::fall::<K, C>(&mut cells[j], shares[j], waves);
+        runs::fall::<K, C>(&mut cells[j], shares[j], waves);
     }
 }

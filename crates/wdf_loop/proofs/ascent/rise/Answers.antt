@@ -1,10 +1,10 @@
-use Rattle.std.proofs.Common.{rules, ◌≡◌, ℕ, ◌+◌, ◌-◌, ◌*◌, ◌<◌, ◌≤◌, ◌^◌, length, refl, sym, ◌∙◌, subst, arith}
+use Rattle.std.proofs.Common.{◌≡◌, ℕ, ◌+◌, ◌-◌, ◌*◌, ◌<◌, ◌≤◌, ◌^◌, length, refl, ◌∙◌, subst, arith}
 use Rattle.std.proofs.lemmas.List.{length-set}
 use Rattle.wdf_loop.specs.Frames.{HaveRisenTo, end_of, first_of, to_of}
 use Rattle.wdf_loop.specs.Layouts.{chain_at}
 use Rattle.wdf_loop.specs.Runs.{AllCanAscend}
 use Rattle.wdf_loop.proofs.AscentLemmas.{rise_can, rise_last, rise_more, risen_none}
-use Rattle.wdf_loop.proofs.ChainLemmas.{end-root, first-end}
+use Rattle.wdf_loop.proofs.LineLemmas.{end-root, first-end}
 use Rattle.wdf_loop.proofs.ascent.rise.Goals as goal
 
 pub loop-t-init : goal.loop-t-init

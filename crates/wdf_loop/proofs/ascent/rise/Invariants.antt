@@ -1,4 +1,4 @@
-use Rattle.std.proofs.Common.{◌≡◌, ℕ, ◌^◌, length}
+use Rattle.std.proofs.Common.{◌≡◌, ◌^◌, length}
 use Rattle.wdf_loop.specs.Frames.{HaveRisenTo}
 use Rattle.wdf_loop.proofs.ascent.rise.Given as goal
 

@@ -1,7 +1,7 @@
-use Rattle.std.proofs.Common.{rules, ◌≡◌, ℕ, ◌+◌, ◌-◌, ◌*◌, ◌<◌, ◌≤◌, ◌^◌, length, sym, ◌∙◌, subst, arith}
+use Rattle.std.proofs.Common.{◌≡◌, ℕ, ◌+◌, ◌-◌, ◌*◌, ◌<◌, ◌≤◌, ◌^◌, length, ◌∙◌, subst, arith}
 use Rattle.wdf_loop.specs.Frames.{HaveFallenTo, end_of, first_of}
 use Rattle.wdf_loop.specs.Runs.{AllCanDescend}
-use Rattle.wdf_loop.proofs.ChainLemmas.{end-root, first-end}
+use Rattle.wdf_loop.proofs.LineLemmas.{end-root, first-end}
 use Rattle.wdf_loop.proofs.DescentLemmas.{fall_can, fall_last, fall_last_can, fall_more}
 use Rattle.wdf_loop.proofs.descent.fall.Goals as goal
 
@@ -49,7 +49,7 @@ descend-requires-in-loop-done g c =
     let inside : end_of c.args.chains.now (length c.args.chains.now - 1 - 1 - c.loop-done.done) ≤ length c.loop-done.cells = omega arith in
     let each : length c.args.shares.now ≡ length c.loop-done.cells = omega arith in
     let fallen = subst (λ (t : ℕ). HaveFallenTo g.row.C (2 ^ g.row.K) c.args.root c.args.shares.now c.args.chains.now (first_of c.args.chains.now t) c.args.cells.now c.args.waves.now c.loop-done.cells) at
-        c.loop-done.invariant.fallen in
+    c.loop-done.invariant.fallen in
     let can : AllCanDescend g.row.C (2 ^ g.row.K) c.args.shares.now (first_of c.args.chains.now (length c.args.chains.now - 1 - 1 - c.loop-done.done)) (end_of c.args.chains.now (length c.args.chains.now - 1 - 1 - c.loop-done.done)) c.loop-done.cells c.collect.new.waves =
     fall_can g.row.C (2 ^ g.row.K) c.args.root c.args.shares.now c.args.chains.now (length c.args.chains.now - 1 - 1 - c.loop-done.done) c.args.cells.now c.loop-done.cells c.args.waves.now c.collect.new.waves
     c.requires.chains more c.requires.turned fallen c.collect.ensures in
@@ -65,7 +65,7 @@ loop-done-preserved g c =
     let at : length c.args.chains.now - 1 - c.loop-done.done ≡ length c.args.chains.now - 1 - 1 - c.loop-done.done + 1 = omega arith in
     let next : length c.args.chains.now - 1 - 1 - c.loop-done.done ≡ length c.args.chains.now - 1 - (c.loop-done.done + 1) = omega arith in
     let fallen = subst (λ (t : ℕ). HaveFallenTo g.row.C (2 ^ g.row.K) c.args.root c.args.shares.now c.args.chains.now (first_of c.args.chains.now t) c.args.cells.now c.args.waves.now c.loop-done.cells) at
-        c.loop-done.invariant.fallen in
+    c.loop-done.invariant.fallen in
     record {
       long = c.descend-in-loop-done.auto.cells ∙ c.loop-done.invariant.long;
       fallen = subst (λ (t : ℕ). HaveFallenTo g.row.C (2 ^ g.row.K) c.args.root c.args.shares.now c.args.chains.now (first_of c.args.chains.now t) c.args.cells.now c.args.waves.now c.descend-in-loop-done.new.cells) next
@@ -77,5 +77,5 @@ pub returns : goal.returns
 returns g c =
     let at : length c.args.chains.now - 1 - c.loop-done.done ≡ 0 = let most = c.loop-done.auto.done-end in let least = c.loop-done-test.false in omega arith in
     let fallen = subst (λ (t : ℕ). HaveFallenTo g.row.C (2 ^ g.row.K) c.args.root c.args.shares.now c.args.chains.now (first_of c.args.chains.now t) c.args.cells.now c.args.waves.now c.loop-done.cells) at
-        c.loop-done.invariant.fallen in
+    c.loop-done.invariant.fallen in
     subst (λ (from : ℕ). HaveFallenTo g.row.C (2 ^ g.row.K) c.args.root c.args.shares.now c.args.chains.now from c.args.cells.now c.args.waves.now c.loop-done.cells) c.requires.chains.from fallen

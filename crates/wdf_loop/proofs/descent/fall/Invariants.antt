@@ -1,4 +1,4 @@
-use Rattle.std.proofs.Common.{◌≡◌, ℕ, ◌-◌, ◌^◌, length}
+use Rattle.std.proofs.Common.{◌≡◌, ◌-◌, ◌^◌, length}
 use Rattle.wdf_loop.specs.Frames.{HaveFallenTo, first_of}
 use Rattle.wdf_loop.proofs.descent.fall.Given as goal
 

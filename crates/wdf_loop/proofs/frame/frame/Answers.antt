@@ -1,10 +1,10 @@
-use Rattle.std.proofs.Common.{rules, ◌≡◌, ℕ, ◌+◌, ◌*◌, ◌<◌, ◌≤◌, ◌^◌, length, ◌∙◌, arith}
+use Rattle.std.proofs.Common.{◌≡◌, ◌+◌, ◌*◌, ◌<◌, ◌≤◌, ◌^◌, length, ◌∙◌, arith}
 use Rattle.std.specs.Prelude.{slice_set}
 use Rattle.std.proofs.lemmas.List.{length-set}
 use Rattle.std.proofs.lemmas.Nat.{pow_pos}
 use Rattle.wdf_loop.specs.Frames.{AllHaveTurned}
 use Rattle.wdf_loop.specs.Layouts.{share_at}
-use Rattle.wdf_loop.specs.Rows.{AllCanRise}
+use Rattle.wdf_loop.specs.RunCells.{AllCanRise}
 use Rattle.wdf_loop.specs.Runs.{IsShare, row_at}
 use Rattle.wdf_loop.proofs.TurnLemmas.{all_done, all_turned, turn_can}
 use Rattle.wdf_loop.proofs.frame.frame.Goals as goal

@@ -1,9 +1,9 @@
-use Rattle.std.proofs.Common.{rules, ◌≡◌, ℕ, ◌+◌, ◌*◌, ◌<◌, ◌≤◌, ◌^◌, length, sym, ◌∙◌, subst, arith}
-use mathlib.Core.Logic.{◌⊎◌, inl, inr}
+use Rattle.std.proofs.Common.{◌≡◌, ℕ, ◌*◌, ◌<◌, ◌≤◌, ◌^◌, ◌∙◌, subst, arith}
+use mathlib.Core.Logic.{inr}
 use Rattle.std.proofs.lemmas.List.{length-set}
 use Rattle.std.proofs.lemmas.Nat.{pow_pos}
 use Rattle.wdf_loop.specs.Layouts.{share_at}
-use Rattle.wdf_loop.specs.Rows.{AllCanRise}
+use Rattle.wdf_loop.specs.RunCells.{AllCanRise}
 use Rattle.wdf_loop.specs.Runs.{HaveClimbed, IsShare, row_at}
 use Rattle.wdf_loop.proofs.PassLemmas.{climb_can, climb_more, others_more}
 use Rattle.wdf_loop.proofs.passes.climb.Goals as goal

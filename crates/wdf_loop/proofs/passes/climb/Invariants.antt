@@ -1,4 +1,4 @@
-use Rattle.std.proofs.Common.{◌≡◌, ℕ, ◌-◌, ◌<◌, ◌≤◌, ◌^◌, length}
+use Rattle.std.proofs.Common.{◌≡◌, ℕ, ◌<◌, ◌≤◌, ◌^◌, length}
 use mathlib.Core.Logic.{◌⊎◌}
 use Rattle.wdf_loop.specs.Runs.{HaveClimbed, row_at}
 use Rattle.wdf_loop.proofs.passes.climb.Given as goal

@@ -1,9 +1,9 @@
-use Rattle.std.proofs.Common.{rules, ◌≡◌, ℕ, ◌+◌, ◌*◌, ◌-◌, ◌<◌, ◌≤◌, ◌^◌, length, sym, ◌∙◌, subst, arith}
-use mathlib.Core.Logic.{◌⊎◌, inl, inr}
+use Rattle.std.proofs.Common.{◌≡◌, ℕ, ◌+◌, ◌*◌, ◌-◌, ◌<◌, ◌≤◌, ◌^◌, sym, ◌∙◌, subst, arith}
+use mathlib.Core.Logic.{◌⊎◌, inl}
 use Rattle.std.proofs.lemmas.List.{length-set}
 use Rattle.std.specs.Prelude.{slice_set}
 use Rattle.wdf_loop.specs.Layouts.{share_at}
-use Rattle.wdf_loop.specs.Rows.{AllCanFall}
+use Rattle.wdf_loop.specs.RunCells.{AllCanFall}
 use Rattle.wdf_loop.specs.Runs.{HaveDescended, IsShare, row_at}
 use Rattle.wdf_loop.proofs.PassLemmas.{descend_can, descend_more, others_less}
 use Rattle.wdf_loop.proofs.passes.descend.Goals as goal
@@ -17,7 +17,7 @@ fall-requires g c =
     let next : c.args.end - c.loop-done.done ≡ c.args.end - 1 - c.loop-done.done + 1 = omega arith in
     let share : IsShare (2 ^ g.row.K) (share_at c.args.shares.now (c.args.end - 1 - c.loop-done.done)) = c.requires.shares (c.args.end - 1 - c.loop-done.done) (omega arith) in
     let so_far = subst (λ (j : ℕ). HaveDescended g.row.C (2 ^ g.row.K) c.args.shares.now c.args.first c.args.end j c.args.cells.now c.args.waves.now c.loop-done.cells c.loop-done.waves)
-        next c.loop-done.invariant.descended in
+    next c.loop-done.invariant.descended in
     let can : AllCanFall (2 ^ g.row.K) g.row.C (share_at c.args.shares.now (c.args.end - 1 - c.loop-done.done)) c.loop-done.waves (row_at c.loop-done.cells (c.args.end - 1 - c.loop-done.done)) =
     descend_can g.row.C (2 ^ g.row.K) c.args.shares.now c.args.first c.args.end (c.args.end - 1 - c.loop-done.done) c.args.cells.now c.loop-done.cells c.args.waves.now c.loop-done.waves share
     (omega arith) (omega arith) c.requires.can so_far (c.loop-done.invariant.others (c.args.end - 1 - c.loop-done.done) (inl (omega arith))) in
@@ -34,9 +34,9 @@ loop-done-preserved g c =
     let now : c.args.end - c.loop-done.done ≡ c.args.end - 1 - c.loop-done.done + 1 = omega arith in
     let next : c.args.end - 1 - c.loop-done.done ≡ c.args.end - (c.loop-done.done + 1) = omega arith in
     let so_far = subst (λ (j : ℕ). HaveDescended g.row.C (2 ^ g.row.K) c.args.shares.now c.args.first c.args.end j c.args.cells.now c.args.waves.now c.loop-done.cells c.loop-done.waves)
-        now c.loop-done.invariant.descended in
+    now c.loop-done.invariant.descended in
     let more = descend_more g.row.C (2 ^ g.row.K) c.args.shares.now c.args.first c.args.end (c.args.end - 1 - c.loop-done.done) c.args.cells.now c.loop-done.cells c.args.waves.now c.loop-done.waves c.fall.new.row c.fall.new.waves
-        (omega arith) (omega arith) (omega arith) so_far (c.loop-done.invariant.others (c.args.end - 1 - c.loop-done.done) (inl (omega arith))) c.fall.ensures in
+    (omega arith) (omega arith) (omega arith) so_far (c.loop-done.invariant.others (c.args.end - 1 - c.loop-done.done) (inl (omega arith))) c.fall.ensures in
     record {
       long = length-set c.loop-done.cells (c.args.end - 1 - c.loop-done.done) c.fall.new.row ∙ long;
       descended = subst (λ (j : ℕ). HaveDescended g.row.C (2 ^ g.row.K) c.args.shares.now c.args.first c.args.end j c.args.cells.now c.args.waves.now

@@ -1,11 +1,11 @@
 -- One run more of a row.
-use Rattle.std.proofs.Common.{◌≡◌, ℕ, ◌+◌, ◌<◌, ◌≤◌, List, length, ap, sym, ◌∙◌, subst, arith}
+use Rattle.std.proofs.Common.{◌≡◌, ℕ, ◌+◌, ◌<◌, ◌≤◌, List, length, subst, arith}
 use Rattle.std.specs.Prelude.{ℤ, pos, slice_set}
 use Rattle.std.proofs.lemmas.List.{get_or-set_same, get_or-set_other}
 use Rattle.std.proofs.lemmas.Bool.{cases_lt}
 use mathlib.Core.Logic.{◌⊎◌, inl, inr}
 use Rattle.wdf_loop.specs.declared.cell.Cell.{Cell}
-use Rattle.wdf_loop.specs.Rows.{cell_in, silent, wave_in}
+use Rattle.wdf_loop.specs.RunCells.{cell_in, silent, wave_in}
 
 pub each_more : (P : ℤ → Cell → Cell → ℤ → Type 0) (c : ℕ) (before row : List Cell) (held waves : List ℤ) (d : Cell) (z : ℤ) → c < length row → c < length waves
     → ((i : ℕ) → i < c → P (wave_in held i) (cell_in before i) (cell_in row i) (wave_in waves i))

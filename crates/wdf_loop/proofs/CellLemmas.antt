@@ -1,5 +1,5 @@
 -- What the passes leave in the cells of a stage, and that they can.
-use Rattle.std.proofs.Common.{◌≡◌, ℕ, ◌+◌, ◌<◌, ◌≤◌, ◌^◌, Bool, true, false, if◌then◌else◌, refl, ap, sym, ◌∙◌, subst, arith}
+use Rattle.std.proofs.Common.{◌≡◌, ℕ, ◌<◌, ◌≤◌, ◌^◌, Bool, true, false, if◌then◌else◌, refl, ap, sym, ◌∙◌, subst}
 use Rattle.std.specs.Prelude.{ℤ, ◌+ℤ◌, unsigned_abs}
 use Rattle.wdf_algebra.specs.JunctionValues.{series_part, parallel_value}
 use Rattle.wdf_algebra.specs.Truncation.{trunc}
@@ -7,7 +7,7 @@ use Rattle.wdf_sched.specs.Operations.{parallel_rest}
 use Rattle.wdf_loop.specs.declared.cell.Cell.{Cell}
 use Rattle.wdf_loop.specs.declared.share.Share.{Share}
 use Rattle.wdf_loop.specs.Cells.{CanFall, CanRise, IsWord, fallen_parallel, fallen_series, reflects, risen_parallel, risen_series}
-use Rattle.wdf_loop.specs.Rows.{Falls, Rises}
+use Rattle.wdf_loop.specs.RunCells.{Falls, Rises}
 use Rattle.wdf_loop.specs.Runs.{HasFallen, HasRisen, IsJunction, IsShare, Values}
 use mathlib.Core.Bool.{true≢false}
 use Rattle.wdf_loop.proofs.Sizes.{rest-size, shares-size}

@@ -1,11 +1,11 @@
-use Rattle.std.proofs.Common.{rules, ◌≡◌, ℕ, ◌+◌, ◌<◌, ◌≤◌, ◌^◌, length, ◌∙◌, arith, w64, to_z, of_z}
+use Rattle.std.proofs.Common.{rules, ◌≡◌, ◌≤◌, ◌^◌, ◌∙◌, arith, w64, to_z, of_z}
 use Rattle.std.proofs.lemmas.Int.{to_z-of_z}
 use Rattle.std.proofs.lemmas.List.{length-set}
 use mir.Val.{SFits}
 use Rattle.wdf_loop.specs.Cells.{risen, wave_up}
-use Rattle.wdf_loop.specs.Rows.{Rises, cell_in, wave_in}
-use Rattle.wdf_loop.proofs.RowLemmas.{each_more, cell_later, wave_later}
-use Rattle.wdf_loop.proofs.row.rise.Goals as goal
+use Rattle.wdf_loop.specs.RunCells.{Rises, cell_in, wave_in}
+use Rattle.wdf_loop.proofs.RunLemmas.{each_more, cell_later, wave_later}
+use Rattle.wdf_loop.proofs.runs.rise.Goals as goal
 
 pub loop-c-preserved : goal.loop-c-preserved
 loop-c-preserved g c =

@@ -1,7 +1,7 @@
 // A stage of several runs at once: a cell and a wave for each.
 ghost use Rattle.std.specs.Prelude.{◌≡◌, ℕ, ◌+◌, ◌<◌, ◌≤◌, ◌^◌, unsigned_abs};
 ghost use Rattle.wdf_loop.specs.Cells.{bottom, fed_with};
-ghost use Rattle.wdf_loop.specs.Rows.{AllCanBegin, AllCanFall, AllCanRise, Falls, InEach, Rises, Turns, cell_in, wave_in};
+ghost use Rattle.wdf_loop.specs.RunCells.{AllCanBegin, AllCanFall, AllCanRise, Falls, InEach, Rises, Turns, cell_in, wave_in};
 
 use crate::cell::Cell;
 use crate::share::Share;
@@ -56,11 +56,7 @@ pub(crate) fn fall<const K: u32, const C: usize>(
 }
 
 /// What the elements below the row's stage reflect, whose kind's sign is this.
-pub(crate) fn bottom<const K: u32, const C: usize>(
-    row: &[Cell; C],
-    sign: i64,
-    waves: &mut [i64; C],
-)
+pub(crate) fn bottom<const K: u32, const C: usize>(row: &[Cell; C], sign: i64, waves: &mut [i64; C])
     requires few { K ≤ 20 }
     requires sign { unsigned_abs sign ≤ 1 }
     requires can { AllCanBegin (2 ^ K) C row.now }

@@ -1,7 +1,7 @@
 use Rattle.std.proofs.Common.{◌≡◌, ℕ, ◌<◌, ◌≤◌, length}
 use Rattle.wdf_loop.specs.Cells.{fed_with}
-use Rattle.wdf_loop.specs.Rows.{cell_in, wave_in}
-use Rattle.wdf_loop.proofs.row.deliver.Given as goal
+use Rattle.wdf_loop.specs.RunCells.{cell_in, wave_in}
+use Rattle.wdf_loop.proofs.runs.deliver.Given as goal
 
 abbrev pub invariant-loop-c : goal.invariant-loop-c
 invariant-loop-c g l = record {

@@ -1,6 +1,6 @@
 use Rattle.std.proofs.Common.{◌≡◌, ℕ, ◌<◌, ◌≤◌, ◌^◌, length}
-use Rattle.wdf_loop.specs.Rows.{Rises, cell_in, wave_in}
-use Rattle.wdf_loop.proofs.row.rise.Given as goal
+use Rattle.wdf_loop.specs.RunCells.{Rises, cell_in, wave_in}
+use Rattle.wdf_loop.proofs.runs.rise.Given as goal
 
 abbrev pub invariant-loop-c : goal.invariant-loop-c
 invariant-loop-c g l = record {

@@ -1,11 +1,11 @@
-use Rattle.std.proofs.Common.{rules, ◌≡◌, ℕ, ◌+◌, ◌<◌, ◌≤◌, ◌^◌, length, ◌∙◌, arith, w64, to_z, of_z}
+use Rattle.std.proofs.Common.{rules, ◌≡◌, ◌≤◌, ◌^◌, ◌∙◌, arith, w64, to_z, of_z}
 use Rattle.std.proofs.lemmas.Int.{to_z-of_z}
 use Rattle.std.proofs.lemmas.List.{length-set}
 use mir.Val.{SFits}
 use Rattle.wdf_loop.specs.Cells.{fallen}
-use Rattle.wdf_loop.specs.Rows.{Falls, cell_in, wave_in}
-use Rattle.wdf_loop.proofs.RowLemmas.{each_more, cell_later, wave_later}
-use Rattle.wdf_loop.proofs.row.fall.Goals as goal
+use Rattle.wdf_loop.specs.RunCells.{Falls, cell_in, wave_in}
+use Rattle.wdf_loop.proofs.RunLemmas.{each_more, cell_later, wave_later}
+use Rattle.wdf_loop.proofs.runs.fall.Goals as goal
 
 pub loop-c-preserved : goal.loop-c-preserved
 loop-c-preserved g c =

@@ -1,10 +1,10 @@
 -- Where the chains of a row lie.
-use Rattle.std.proofs.Common.{◌≡◌, ℕ, zero, suc, ◌+◌, ◌-◌, ◌<◌, ◌≤◌, List, length, ap, sym, ◌∙◌, subst, arith}
+use Rattle.std.proofs.Common.{◌≡◌, ℕ, zero, suc, ◌+◌, ◌-◌, ◌<◌, ◌≤◌, List, length, subst, arith}
 use Rattle.std.proofs.lemmas.Bool.{cases_lt}
 use mathlib.Core.Logic.{◌⊎◌, inl, inr}
 use Rattle.wdf_loop.specs.declared.chain.Chain.{Chain}
-use Rattle.wdf_loop.specs.Layouts.{IsRowOfChains, chain_at}
-use Rattle.wdf_loop.specs.Frames.{IsFed, end_of, first_of, to_of}
+use Rattle.wdf_loop.specs.Layouts.{IsRowOfChains}
+use Rattle.wdf_loop.specs.Frames.{IsFed, end_of, first_of}
 
 -- either the chain is the last, or there is a next
 pub last_or_next : (t count : ℕ) → t < count → (t + 1 < count) ⊎ (t + 1 ≡ count)
