@@ -3,7 +3,11 @@
 use Rattle.std.specs.Prelude.{◌≡◌, ℕ, ◌*◌, ◌^◌, ◌≤◌, ℤ, pos, ◌+ℤ◌, ◌-ℤ◌, ◌*ℤ◌, unsigned_abs, true, if◌then◌else◌}
 use Rattle.wdf_algebra.specs.JunctionValues.{series_part, parallel_value, root_value}
 use Rattle.wdf_algebra.specs.Truncation.{trunc}
+use Rattle.wdf_law.specs.Elements.{signed}
 use Rattle.wdf_loop.specs.declared.cell.Cell.{Cell}
+use Rattle.wdf_loop.specs.declared.feed.Feed.{Feed}
+use Rattle.wdf_loop.specs.declared.field.Field.{Field}
+use Rattle.wdf_loop.specs.declared.field.Field.TheVariants.{Up, Down, Below, Onward, Raw}
 use Rattle.wdf_loop.specs.declared.share.Share.{Share}
 
 -- what the part beside reflects: its last down wave with the sign of its kind, and what it is fed
@@ -17,6 +21,21 @@ bottom sign c = sign *ℤ c.onward +ℤ c.under
 -- the part beside fed with w
 abbrev pub fed_with : ℤ → Cell → Cell
 fed_with w c = record { fed = w; under = c.under; up = c.up; below = c.below; raw = c.raw; down = c.down; onward = c.onward }
+
+-- a number of a cell by its name
+abbrev pub value_of : Field → Cell → ℤ
+value_of Up c = c.up
+value_of Down c = c.down
+value_of Below c = c.below
+value_of Onward c = c.onward
+value_of Raw c = c.raw
+
+-- a source fed with w, which hangs where the feed says
+abbrev pub under_with : ℤ → Cell → Cell
+under_with w c = record { fed = c.fed; under = w; up = c.up; below = c.below; raw = c.raw; down = c.down; onward = c.onward }
+
+abbrev pub given : Feed → ℤ → Cell → Cell
+given f z c = if f.beside then fed_with (signed f.flip z) c else under_with (signed f.flip z) c
 
 -- on the way up, the tree below reflecting w
 abbrev pub risen_series : Share → ℤ → Cell → Cell

@@ -1,8 +1,11 @@
+pub mod Blocks
 pub mod Cells
 pub mod Frames
 pub mod Layouts
 pub mod Limiting
+pub mod NextFrames
 pub mod Places
 pub mod RunCells
 pub mod Runs
 pub mod Shows
+pub mod Steps

@@ -1,5 +1,6 @@
 -- That the cells of a run show values of a schedule's slots, and how the values of one frame follow those of the frame before.
-use Rattle.std.specs.Prelude.{◌≡◌, ℕ, ◌<◌, ◌≤◌, true, ℤ, IsTrue, List}
+use Rattle.std.specs.Prelude.{◌≡◌, ℕ, ◌<◌, ◌≤◌, ◌^◌, Bool, true, ℤ, if◌then◌else◌, IsTrue, List, [], ◌∷◌, length, map, slice_index_or, unsigned_abs}
+use Rattle.wdf_law.specs.Elements.{signed}
 use Rattle.wdf_law.specs.Network.{unit_of, elements, has_reactance}
 use Rattle.wdf_law.specs.Run.{source_values}
 use Rattle.wdf_sched.specs.Meaning.{Starts, slot_at}
@@ -12,6 +13,7 @@ use Rattle.wdf_loop.specs.declared.mark.Mark.{Mark}
 use Rattle.wdf_loop.specs.declared.share.Share.{Share}
 use Rattle.wdf_loop.specs.Frames.{IsFed}
 use Rattle.wdf_loop.specs.Layouts.{fed_by, is_beside, is_under, mark_at, share_at}
+use Rattle.wdf_loop.specs.RunCells.{wave_in}
 use Rattle.wdf_loop.specs.Runs.{cell_at}
 
 -- a cell shows the waves of its stage's slots
@@ -39,3 +41,33 @@ pub record Follows (s : ScheduleValue) (limit : ℕ) (x : ℕ → ℤ) (zs : Lis
   pub starts : Starts s.net x (source_values s.net zs) g
   pub holds : HoldAll (unit_of s.net) g s.ops
   pub within : AreWithin (unit_of s.net) limit g s.ops
+
+-- ---- feeding
+
+-- what the feeds put at a place from the values zs, d where none of them has that place
+abbrev pub fed_or : ℤ → (Feed → Bool) → List Feed → List ℤ → ℤ
+fed_or d is [] zs = d
+fed_or d is (f ∷ fs) [] = d
+fed_or d is (f ∷ fs) (z ∷ zs) = if is f then signed f.flip z else fed_or d is fs zs
+
+-- a cell of the stage j before and behind it
+pub record IsFedAnew (feeds : List Feed) (zs : List ℤ) (j : ℕ) (c d : Cell) : Type 0 where
+  pub fed : d.fed ≡ fed_or c.fed (is_beside j) feeds zs
+  pub under : d.under ≡ fed_or c.under (is_under j) feeds zs
+  pub up : d.up ≡ c.up
+  pub below : d.below ≡ c.below
+  pub raw : d.raw ≡ c.raw
+  pub down : d.down ≡ c.down
+  pub onward : d.onward ≡ c.onward
+
+-- the values of the run c, one of each source, from rows that have one for each run
+abbrev pub values_in : List (List ℤ) → ℕ → List ℤ
+values_in rows c = map (λ (row : List ℤ). wave_in row c) rows
+
+abbrev pub HaveBeenFed : ℕ → List Feed → List (List ℤ) → List (List Cell) → List (List Cell) → Type 0
+HaveBeenFed count feeds rows before cells =
+    (c : ℕ) → c < count → (j : ℕ) → IsFedAnew feeds (values_in rows c) j (cell_at before j c) (cell_at cells j c)
+
+-- no value is larger than a word in whole units
+abbrev pub AreSmallValues : ℕ → List (List ℤ) → Type 0
+AreSmallValues count rows = (i c : ℕ) → i < length rows → c < count → unsigned_abs (wave_in (slice_index_or rows i []) c) ≤ 2 ^ 60

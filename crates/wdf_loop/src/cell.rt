@@ -1,10 +1,12 @@
 ghost use Rattle.std.specs.Prelude.{◌≡◌, ◌+◌, ◌*◌, ◌<◌, ◌≤◌, ◌^◌, pos, ◌+ℤ◌, ◌-ℤ◌, ◌*ℤ◌, unsigned_abs};
 ghost use Rattle.wdf_algebra.specs.JunctionValues.{parallel_value};
 ghost use Rattle.wdf_algebra.specs.Truncation.{trunc};
-ghost use Rattle.wdf_loop.specs.Cells.{AreWords, CanBegin, CanFall, CanRise, IsWord, bottom, fallen, fallen_parallel, fallen_series, reflects, risen, risen_parallel, risen_series, turned, wave_up};
+ghost use Rattle.wdf_loop.specs.Cells.{AreWords, CanBegin, CanFall, CanRise, IsWord, bottom, fallen, fallen_parallel, fallen_series, given, reflects, risen, risen_parallel, risen_series, turned, value_of, wave_up};
 
+use crate::feed::Feed;
+use crate::field::Field;
 use crate::share::Share;
-use crate::sums::{minus, plus, reflected, weighed};
+use crate::sums::{minus, plus, reflected, signed, weighed};
 use wdf_algebra::{Rounded, parallel_part, root_part, series_first, series_second, times};
 
 /// The numbers of a junction in one run, those of its last frame; all but `raw` are waves. One part
@@ -47,6 +49,32 @@ impl Cell {
         ensures { result ≡ bottom sign self.now }
     {
         reflected::<K>(sign, self.onward, self.under)
+    }
+
+    /// The number of this name.
+    pub(crate) fn value(&self, field: Field) -> i64
+        ensures { result ≡ value_of field self.now }
+    {
+        match field {
+            Field::Up => self.up,
+            Field::Down => self.down,
+            Field::Below => self.below,
+            Field::Onward => self.onward,
+            Field::Raw => self.raw,
+        }
+    }
+
+    /// Feeds a source of the stage with its value.
+    pub(crate) fn give(&mut self, feed: Feed, value: i64)
+        requires { unsigned_abs value ≤ 2 ^ 60 }
+        ensures { self.new ≡ given feed value self.old }
+    {
+        let fed = signed(feed.flip, value);
+        if feed.beside {
+            self.fed = fed;
+        } else {
+            self.under = fed;
+        }
     }
 
     // A series junction on the way up.

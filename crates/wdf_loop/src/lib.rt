@@ -3,18 +3,22 @@
 #![tactic(auto)]
 
 mod ascent;
+mod block;
 mod cell;
 mod chain;
 mod descent;
 mod feed;
+mod feeding;
 mod field;
 mod frame;
 mod limited;
 mod mark;
+mod outlet;
 mod passes;
 mod place;
 mod runs;
 mod share;
+mod step;
 mod sums;
 #[cfg(test)]
 mod tests;

@@ -1,10 +1,14 @@
 // A stage of several runs at once: a cell and a wave for each.
 ghost use Rattle.std.specs.Prelude.{◌≡◌, ℕ, ◌+◌, ◌<◌, ◌≤◌, ◌^◌, unsigned_abs};
-ghost use Rattle.wdf_loop.specs.Cells.{bottom, fed_with};
+ghost use Rattle.wdf_law.specs.Elements.{signed};
+ghost use Rattle.wdf_loop.specs.Cells.{bottom, fed_with, given, value_of};
 ghost use Rattle.wdf_loop.specs.RunCells.{AllCanBegin, AllCanFall, AllCanRise, Falls, InEach, Rises, Turns, cell_in, wave_in};
 
 use crate::cell::Cell;
+use crate::feed::Feed;
+use crate::outlet::Outlet;
 use crate::share::Share;
+use crate::sums::signed;
 
 /// A junction on the way up, the trees below reflecting `waves`, which become what it reflects.
 pub(crate) fn rise<const K: u32, const C: usize>(
@@ -82,5 +86,25 @@ pub(crate) fn collect<const C: usize>(row: &[Cell; C], waves: &mut [i64; C])
 {
     for c in 0..C {
         waves[c] = row[c].down;
+    }
+}
+
+/// Feeds a source of the row's stage with its values.
+pub(crate) fn give<const C: usize>(row: &mut [Cell; C], feed: Feed, values: &[i64; C])
+    requires { (c : ℕ) → c < C → unsigned_abs (wave_in values.now c) ≤ 2 ^ 60 }
+    ensures { (c : ℕ) → c < C → cell_in row.new c ≡ given feed (wave_in values.now c) (cell_in row.old c) }
+{
+    for c in 0..C {
+        row[c].give(feed, values[c]);
+    }
+}
+
+/// The load waves: what the outlet's element is sent, negated where its leaf is flipped.
+pub(crate) fn load<const C: usize>(row: &[Cell; C], outlet: Outlet, waves: &mut [i64; C])
+    requires { (c : ℕ) → c < C → unsigned_abs (value_of outlet.field (cell_in row.now c)) ≤ 2 ^ 60 }
+    ensures { (c : ℕ) → c < C → wave_in waves.new c ≡ signed outlet.flip (value_of outlet.field (cell_in row.now c)) }
+{
+    for c in 0..C {
+        waves[c] = signed(outlet.flip, row[c].value(outlet.field));
     }
 }

@@ -1,5 +1,6 @@
 // Sums and products that fit.
 ghost use Rattle.std.specs.Prelude.{◌≡◌, ◌+◌, ◌*◌, ◌<◌, ◌≤◌, ◌^◌, pos, ◌+ℤ◌, ◌-ℤ◌, ◌*ℤ◌, unsigned_abs};
+ghost use Rattle.wdf_law.specs.Elements.{signed};
 ghost use Rattle.wdf_loop.specs.Cells.{IsWord};
 
 use wdf_algebra::times;
@@ -29,6 +30,14 @@ pub(crate) fn reflected<const K: u32>(sign: i64, state: i64, fed: i64) -> i64
     ensures { result ≡ sign *ℤ state +ℤ fed }
 {
     plus(times(sign, state), fed)
+}
+
+/// A value, negated where `flip` says so.
+pub(crate) fn signed(flip: bool, value: i64) -> i64
+    requires { unsigned_abs value ≤ 2 ^ 60 }
+    ensures { result ≡ signed flip value }
+{
+    if flip { -value } else { value }
 }
 
 /// m·z, where m is at most q.
