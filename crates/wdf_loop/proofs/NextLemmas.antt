@@ -1,5 +1,5 @@
 -- One frame more of a run, as values of a schedule's slots.
-use Rattle.std.proofs.Common.{◌≡◌, ℕ, ◌+◌, ◌-◌, ◌*◌, ◌<◌, ◌≤◌, ◌^◌, Bool, true, false, cond, List, [], ◌∷◌, length, map, refl, ap, sym, ◌∙◌, subst, arith}
+use Rattle.std.proofs.Common.{◌≡◌, ℕ, zero, suc, ◌+◌, ◌-◌, ◌*◌, ◌<◌, ◌≤◌, ◌^◌, Bool, true, false, cond, List, [], ◌∷◌, length, map, refl, ap, sym, ◌∙◌, subst, arith}
 use Rattle.std.specs.Prelude.{ℤ, pos, filter}
 use Rattle.std.specs.List.{range_with_len}
 use Rattle.std.proofs.lemmas.Nat.{pow-add}
@@ -16,13 +16,13 @@ use Rattle.wdf_law.proofs.NumberLemmas.{kind_among}
 use Rattle.wdf_bounds.specs.HeldWords.{AreLimited, HoldsWords, IsInput, IsReached}
 use Rattle.wdf_bounds.specs.Plans.{PlanOf}
 use Rattle.wdf_bounds.specs.WordBound.{word_limit}
-use Rattle.wdf_sched.specs.Carrying.{HasValues, after_ops}
+use Rattle.wdf_sched.specs.Carrying.{HasValues}
 use Rattle.wdf_sched.specs.Meaning.{HasWavesWithin, slot_at}
 use Rattle.wdf_sched.specs.declared.op.Op.{Op}
 use Rattle.wdf_sched.specs.declared.op.Op.TheVariants.{DownParallel, DownSeries, Root, UpParallel, UpSeries}
 use Rattle.wdf_sched.specs.Operations.{AreWithin, HoldAll, Holds, IsAtMost, IsWithin, Slots, parallel_rest}
 use Rattle.wdf_sched.specs.Schedules.{IsSchedule, ScheduleValue}
-use Rattle.wdf_loop.specs.NextFrames.{HasNext, Stands, state_in}
+use Rattle.wdf_loop.specs.NextFrames.{IsNext, Stands, next_slots, slots_from, state_in}
 
 -- two functions that agree where a test passes give the numbers that pass it the same
 map-filter : (p : ℕ → Bool) (f g : ℕ → ℤ) (xs : List ℕ) → ((i : ℕ) → p i ≡ true → f i ≡ g i) → map f (filter p xs) ≡ map g (filter p xs)
@@ -49,26 +49,22 @@ plan_words k few =
     let both : 2 ^ 60 ≡ 2 ^ k * 2 ^ (60 - k) = sym (ap (λ (m : ℕ). 2 ^ m) at) ∙ pow-add 2 k (60 - k) in
     omega arith
 
-pub next : (s : ScheduleValue) (plan : PlanOf) (done : ℕ) (zs : List ℤ) (before : Slots) → IsSchedule s → HasValues s → HasNumbers s.net → HasOneStep s.net → HoldsWords s.net plan
-    → done < plan.frames → IsInput s.net plan (source_values s.net zs) → Stands s plan done before → HasNext s plan done zs before
+pub next : (s : ScheduleValue) (plan : PlanOf) (done : ℕ) (zs : List ℤ) (before : Slots) → IsSchedule s → (values : HasValues s) → HasNumbers s.net → HasOneStep s.net → HoldsWords s.net plan
+    → done < plan.frames → IsInput s.net plan (source_values s.net zs) → Stands s plan done before → IsNext s plan done zs before (next_slots s values zs before)
 next s plan done zs before rules values numbers one words frames input stands =
-    let n = s.net in
-    let state = state_in s before in
     let begun = values.starts (states s.net (state_in s before)) (source_values s.net zs) in
-    let g = after_ops (unit_of s.net) s.ops begun.0 in
     let carried = values.some begun.0 in
-    let starts = values.kept (states s.net (state_in s before)) (source_values s.net zs) begun.0 (after_ops (unit_of s.net) s.ops begun.0) carried.0 begun.1 in
+    let starts = values.kept (states s.net (state_in s before)) (source_values s.net zs) begun.0 (next_slots s values zs before) carried.0 begun.1 in
     let made = one.some (state_in s before) (source_values s.net zs) in
     let limited = words.step done (state_in s before) (source_values s.net zs) made.0 frames stands.reached input made.1 in
-    let within = rules.computes.fits (word_limit plan) (state_in s before) (source_values s.net zs) (after_ops (unit_of s.net) s.ops begun.0) made.0 made.1 starts carried.1
-        (limited_within (word_limit plan) made.0.left limited.left) (limited_within (word_limit plan) made.0.right limited.right) in
-    let sent = rules.computes.sends (state_in s before) (source_values s.net zs) (after_ops (unit_of s.net) s.ops begun.0) made.0 made.1 starts carried.1 in
-    let left : state_in s (after_ops (unit_of s.net) s.ops begun.0) ≡ after s.net made.0 =
-    map-filter (has_reactance (elements s.net)) (λ (i : ℕ). after_ops (unit_of s.net) s.ops begun.0 (slot_at s.down_slots i)) (sent_in s.net made.0) (range_with_len 0 (length (elements s.net)))
+    let within = rules.computes.fits (word_limit plan) (state_in s before) (source_values s.net zs) (next_slots s values zs before) made.0 made.1 starts carried.1
+    (limited_within (word_limit plan) made.0.left limited.left) (limited_within (word_limit plan) made.0.right limited.right) in
+    let sent = rules.computes.sends (state_in s before) (source_values s.net zs) (next_slots s values zs before) made.0 made.1 starts carried.1 in
+    let left : state_in s (next_slots s values zs before) ≡ after s.net made.0 =
+    map-filter (has_reactance (elements s.net)) (λ (i : ℕ). next_slots s values zs before (slot_at s.down_slots i)) (sent_in s.net made.0) (range_with_len 0 (length (elements s.net)))
     (λ i h. sent i (reactance_below s.net i numbers h)) in
     let reached = words.kept done (state_in s before) (source_values s.net zs) made.0 frames stands.reached input made.1 in
     record {
-      after = after_ops (unit_of s.net) s.ops begun.0;
       frame = made.0;
       step = made.1;
       sent = sent;
@@ -85,6 +81,26 @@ next s plan done zs before rules values numbers one words frames input stands =
         reached = subst (IsReached s.net plan (done + 1)) (sym left) reached;
       };
     }
+
+-- and so frame after frame
+pub stands_at : (s : ScheduleValue) (plan : PlanOf) (done : ℕ) (zs : ℕ → List ℤ) (before : Slots) → IsSchedule s → (values : HasValues s) → HasNumbers s.net → HasOneStep s.net → HoldsWords s.net plan
+    → Stands s plan done before → (f : ℕ) → done + f ≤ plan.frames → ((i : ℕ) → i < f → IsInput s.net plan (source_values s.net (zs i)))
+    → Stands s plan (done + f) (slots_from s values zs before f)
+stands_at s plan done zs before rules values numbers one words stands zero frames input = let at : done + 0 ≡ done = omega arith in rw at stands
+stands_at s plan done zs before rules values numbers one words stands (suc f) frames input =
+    let so_far = stands_at s plan done zs before rules values numbers one words stands f (omega arith) (λ i h. input i (omega arith)) in
+    let made = next s plan (done + f) (zs f) (slots_from s values zs before f) rules values numbers one words (omega arith) (input f (omega arith)) so_far in
+    let at : done + suc f ≡ done + f + 1 = omega arith in
+    rw at made.stands
+
+pub next_at : (s : ScheduleValue) (plan : PlanOf) (done : ℕ) (zs : ℕ → List ℤ) (before : Slots) → IsSchedule s → (values : HasValues s) → HasNumbers s.net → HasOneStep s.net → HoldsWords s.net plan
+    → Stands s plan done before → (count : ℕ) → done + count ≤ plan.frames → ((i : ℕ) → i < count → IsInput s.net plan (source_values s.net (zs i)))
+    → (f : ℕ) → f < count → IsNext s plan (done + f) (zs f) (slots_from s values zs before f) (slots_from s values zs before (f + 1))
+next_at s plan done zs before rules values numbers one words stands count frames input f h =
+    let so_far = stands_at s plan done zs before rules values numbers one words stands f (omega arith) (λ i less. input i (omega arith)) in
+    let made = next s plan (done + f) (zs f) (slots_from s values zs before f) rules values numbers one words (omega arith) (input f h) so_far in
+    let at : suc f ≡ f + 1 = omega arith in
+    subst (λ (k : ℕ). IsNext s plan (done + f) (zs f) (slots_from s values zs before f) (slots_from s values zs before k)) at made
 
 -- ---- at rest all values are 0
 

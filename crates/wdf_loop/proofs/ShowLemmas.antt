@@ -214,26 +214,26 @@ is-run s shares marks chains feeds limit before g lay few holds within =
       climbs = λ t h. climb-of s shares marks chains feeds limit before g lay few holds within t h;
       descends = λ t h. descent-of s shares marks chains feeds limit before g lay few holds within t h;
       delivered = λ t more.
-        outside (end_of chains t) (end_of chains t) (g (mark_at marks (end_of chains t)).below) (g (up t)) (omega arith)
-        ∙ (ap g (top_more (t + 1) (length chains) (mark_at marks (to_of chains t)).up (mark_at marks lay.root).below more)
-        ∙ minus_none (g (mark_at marks (to_of chains t)).up) (share_at shares (to_of chains t)).sign (before (mark_at marks (to_of chains t)).down) (still s shares marks chains feeds lay t more));
+          outside (end_of chains t) (end_of chains t) (g (mark_at marks (end_of chains t)).below) (g (up t)) (omega arith)
+          ∙ (ap g (top_more (t + 1) (length chains) (mark_at marks (to_of chains t)).up (mark_at marks lay.root).below more)
+          ∙ minus_none (g (mark_at marks (to_of chains t)).up) (share_at shares (to_of chains t)).sign (before (mark_at marks (to_of chains t)).down) (still s shares marks chains feeds lay t more));
       collected = λ t more.
-        outside (end_of chains t) (end_of chains t) (g (mark_at marks (end_of chains t)).onward) (g (down t)) (omega arith)
-        ∙ ap g (top_more (t + 1) (length chains) (mark_at marks (to_of chains t)).down (mark_at marks lay.root).onward more);
+          outside (end_of chains t) (end_of chains t) (g (mark_at marks (end_of chains t)).onward) (g (down t)) (omega arith)
+          ∙ ap g (top_more (t + 1) (length chains) (mark_at marks (to_of chains t)).down (mark_at marks lay.root).onward more);
       arrives = λ t last.
-        outside (end_of chains t) (end_of chains t) (g (mark_at marks (end_of chains t)).below) (g (up t)) (omega arith)
-        ∙ ap g (top_last (t + 1) (length chains) (mark_at marks (to_of chains t)).up (mark_at marks lay.root).below (omega arith));
+          outside (end_of chains t) (end_of chains t) (g (mark_at marks (end_of chains t)).below) (g (up t)) (omega arith)
+          ∙ ap g (top_last (t + 1) (length chains) (mark_at marks (to_of chains t)).up (mark_at marks lay.root).below (omega arith));
       returns = λ t last.
-        outside (end_of chains t) (end_of chains t) (g (mark_at marks (end_of chains t)).onward) (g (down t)) (omega arith)
-        ∙ ap g (top_last (t + 1) (length chains) (mark_at marks (to_of chains t)).down (mark_at marks lay.root).onward (omega arith));
+          outside (end_of chains t) (end_of chains t) (g (mark_at marks (end_of chains t)).onward) (g (down t)) (omega arith)
+          ∙ ap g (top_last (t + 1) (length chains) (mark_at marks (to_of chains t)).down (mark_at marks lay.root).onward (omega arith));
       turns = record { down = lay.turn.down g holds; onward = lay.turn.onward g holds };
       root_up = word q limit (g (mark_at marks lay.root).up) few small.0;
       root_below = word q limit (g (mark_at marks lay.root).below) few small.1;
       bottoms = λ t h.
-        let first = first-end lay.root chains lay.row t h in
-        let top = end-root lay.root chains lay.row t h in
-        let sizes = (lay.small (first_of chains t) (omega arith)).waves limit g within in
-        subst (IsWord (unit_of s.net)) (sym (bottom-height s shares marks chains feeds before g lay t h)) (word (unit_of s.net) limit (g (mark_at marks (first_of chains t)).below) few sizes.1);
+          let first = first-end lay.root chains lay.row t h in
+          let top = end-root lay.root chains lay.row t h in
+          let sizes = (lay.small (first_of chains t) (omega arith)).waves limit g within in
+          subst (IsWord (unit_of s.net)) (sym (bottom-height s shares marks chains feeds before g lay t h)) (word (unit_of s.net) limit (g (mark_at marks (first_of chains t)).below) few sizes.1);
     }
 
 pub begins : (s : ScheduleValue) (shares : List Share) (marks : List Mark) (chains : List Chain) (feeds : List Feed) (limit : ℕ) (x : ℕ → ℤ) (zs : List ℤ) (before g : Slots) (cells : List (List Cell)) (c : ℕ)
@@ -241,17 +241,17 @@ pub begins : (s : ScheduleValue) (shares : List Share) (marks : List Mark) (chai
     → Begins (unit_of s.net) lay.root shares chains (run_of lay.root shares marks chains before g) cells c
 begins s shares marks chains feeds limit x zs before g cells c lay few f shows fed = record {
   up = λ j h. (λ i. (share_at shares j).sign *ℤ (shows.stages j h).down i +ℤ (g (mark_at marks j).up -ℤ (share_at shares j).sign *ℤ before (mark_at marks j).down))
-    ∙ cancel ((share_at shares j).sign *ℤ before (mark_at marks j).down) (g (mark_at marks j).up);
+      ∙ cancel ((share_at shares j).sign *ℤ before (mark_at marks j).down) (g (mark_at marks j).up);
   down = λ j h. subst (IsWord (unit_of s.net)) (sym (shows.stages j h).down) (word (unit_of s.net) limit (before (mark_at marks j).down) few ((lay.small j h).waves limit before f.small).2);
   onward = λ j h. subst (IsWord (unit_of s.net)) (sym (shows.stages j h).onward) (word (unit_of s.net) limit (before (mark_at marks j).onward) few ((lay.small j h).waves limit before f.small).3);
   fed = λ j h free. fed.beside j h free ∙ beside j free (lay.beside j h);
   bottoms = λ t h.
-    let first = first-end lay.root chains lay.row t h in
-    let top = end-root lay.root chains lay.row t h in
-    let low : first_of chains t ≤ lay.root = omega arith in
-    (λ i. (chain_at chains t).sign *ℤ (shows.stages (first_of chains t) low).onward i +ℤ fed.under (first_of chains t) low i)
-    ∙ (sym (element-fed s limit x zs before g (mark_at marks (first_of chains t)).below (mark_at marks (first_of chains t)).onward (chain_at chains t).sign (fed_by (is_under (first_of chains t)) feeds) f (lay.bottoms t h)).1
-    ∙ sym (bottom-height s shares marks chains feeds before g lay t h));
+      let first = first-end lay.root chains lay.row t h in
+      let top = end-root lay.root chains lay.row t h in
+      let low : first_of chains t ≤ lay.root = omega arith in
+      (λ i. (chain_at chains t).sign *ℤ (shows.stages (first_of chains t) low).onward i +ℤ fed.under (first_of chains t) low i)
+      ∙ (sym (element-fed s limit x zs before g (mark_at marks (first_of chains t)).below (mark_at marks (first_of chains t)).onward (chain_at chains t).sign (fed_by (is_under (first_of chains t)) feeds) f (lay.bottoms t h)).1
+      ∙ sym (bottom-height s shares marks chains feeds before g lay t h));
 }
   where
     beside : (j : ℕ) → IsFed chains 0 j

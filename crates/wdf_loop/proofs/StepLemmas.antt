@@ -52,9 +52,9 @@ shows_anew : (root : ℕ) (shares : List Share) (marks : List Mark) (feeds : Lis
     → ((j : ℕ) → IsFedAnew feeds zs j (cell_at before j c) (cell_at cells j c)) → AllShow root shares marks g cells c
 shows_anew root shares marks feeds zs g before cells c shows anew = record {
   stages = λ j h.
-    let a = anew j in
-    let s = shows.stages j h in
-    record { up = a.up ∙ s.up; below = a.below ∙ s.below; down = a.down ∙ s.down; onward = a.onward ∙ s.onward };
+      let a = anew j in
+      let s = shows.stages j h in
+      record { up = a.up ∙ s.up; below = a.below ∙ s.below; down = a.down ∙ s.down; onward = a.onward ∙ s.onward };
   raws = λ j h e. (anew j).raw ∙ shows.raws j h e;
 }
 

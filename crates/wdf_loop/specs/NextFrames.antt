@@ -1,11 +1,12 @@
 -- Frame after frame of a run, as values of a schedule's slots.
-use Rattle.std.specs.Prelude.{◌≡◌, ℕ, ◌+◌, ◌<◌, ℤ, List, length, map}
+use Rattle.std.specs.Prelude.{◌≡◌, ℕ, zero, suc, ◌+◌, ◌<◌, ℤ, List, length, map}
 use Rattle.wdf_law.specs.Network.{unit_of, elements, reactances}
 use Rattle.wdf_law.specs.Run.{source_values, states}
 use Rattle.wdf_law.specs.Step.{Frame, IsStep, sent_in}
 use Rattle.wdf_bounds.specs.HeldWords.{IsReached}
 use Rattle.wdf_bounds.specs.Plans.{PlanOf}
 use Rattle.wdf_bounds.specs.WordBound.{word_limit}
+use Rattle.wdf_sched.specs.Carrying.{HasValues, after_ops}
 use Rattle.wdf_sched.specs.Meaning.{slot_at}
 use Rattle.wdf_sched.specs.Operations.{AreWithin, HoldAll, Slots}
 use Rattle.wdf_sched.specs.Schedules.{ScheduleValue}
@@ -23,10 +24,18 @@ pub record Stands (s : ScheduleValue) (plan : PlanOf) (done : ℕ) (g : Slots) :
 
 -- One frame more, with the sources' values zs: the reference step from the state that was left sends each element the wave in
 -- its down slot.
-pub record HasNext (s : ScheduleValue) (plan : PlanOf) (done : ℕ) (zs : List ℤ) (before : Slots) : Type 0 where
-  pub after : Slots
+pub record IsNext (s : ScheduleValue) (plan : PlanOf) (done : ℕ) (zs : List ℤ) (before after : Slots) : Type 0 where
   pub frame : Frame
   pub step : IsStep s.net (states s.net (state_in s before)) (source_values s.net zs) frame
   pub sent : (i : ℕ) → i < length (elements s.net) → after (slot_at s.down_slots i) ≡ sent_in s.net frame i
   pub follows : Follows s (word_limit plan) (states s.net (state_in s before)) zs before after
   pub stands : Stands s plan (done + 1) after
+
+-- The values by how many frames are done, where those of each frame come of the operations carried out on what its elements
+-- reflect; zs are the sources' values by the frames.
+abbrev pub next_slots : (s : ScheduleValue) → HasValues s → List ℤ → Slots → Slots
+next_slots s values zs before = after_ops (unit_of s.net) s.ops (values.starts (states s.net (state_in s before)) (source_values s.net zs)).0
+
+abbrev pub slots_from : (s : ScheduleValue) → HasValues s → (ℕ → List ℤ) → Slots → ℕ → Slots
+slots_from s values zs before zero = before
+slots_from s values zs before (suc f) = next_slots s values (zs f) (slots_from s values zs before f)

@@ -45,7 +45,14 @@ pub(crate) fn block<const K: u32, const C: usize>(
     let sources = feeds.len();
     for f in 0..waves.len() {
         let at = f * sources;
-        step::<K, C>(shares, chains, feeds, cells, root, &values[at..at + sources]);
+        step::<K, C>(
+            shares,
+            chains,
+            feeds,
+            cells,
+            root,
+            &values[at..at + sources],
+        );
         runs::load::<C>(&cells[outlet.stage as usize], outlet, &mut waves[f]);
     }
 }

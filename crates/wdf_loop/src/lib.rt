@@ -22,5 +22,6 @@ mod step;
 mod sums;
 #[cfg(test)]
 mod tests;
+mod width;
 
 pub use limited::{Limited, out_sample};

@@ -26,10 +26,10 @@ step-requires g c =
     length-take-le (length c.args.feeds.now) (drop (c.loop-f.f * length c.args.feeds.now) c.args.values.now) (omega arith) in
     let sources = subst (λ (m : ℕ). length (take m (drop (c.loop-f.f * length c.args.feeds.now) c.args.values.now)) ≡ length c.args.feeds.now) (sym size) long in
     let small = subst (λ (m : ℕ). AreSmallValues g.row.C (take m (drop (c.loop-f.f * length c.args.feeds.now) c.args.values.now))) (sym size)
-        (frame_small g.row.C (length c.args.feeds.now) c.loop-f.f c.args.values.now inside c.requires.small) in
+    (frame_small g.row.C (length c.args.feeds.now) c.loop-f.f c.args.values.now inside c.requires.small) in
     let can = subst (λ (m : ℕ). AllCanStep g.row.C (2 ^ g.row.K) c.args.root c.args.shares.now c.args.chains.now c.args.feeds.now c.loop-f.cells (take m (drop (c.loop-f.f * length c.args.feeds.now) c.args.values.now))) (sym size)
-        (all_can_step g.row.C (2 ^ g.row.K) c.args.root c.args.shares.now c.args.chains.now c.args.feeds.now c.args.outlet (length c.args.waves.now) c.loop-f.f c.args.cells.now c.loop-f.cells c.args.values.now c.loop-f.waves less
-        c.requires.can c.loop-f.invariant.run) in
+    (all_can_step g.row.C (2 ^ g.row.K) c.args.root c.args.shares.now c.args.chains.now c.args.feeds.now c.args.outlet (length c.args.waves.now) c.loop-f.f c.args.cells.now c.loop-f.cells c.args.values.now c.loop-f.waves less
+    c.requires.can c.loop-f.invariant.run) in
     let stages : length c.loop-f.cells ≡ c.args.root + 1 = c.loop-f.invariant.long ∙ c.requires.stages in
     let runs : g.row.C ≤ 4 = c.requires.runs in
     let one : g.row.C * 56 < 9223372036854775808 = omega arith in
@@ -41,7 +41,7 @@ load-requires g c =
     let less : c.loop-f.f < length c.args.waves.now = c.loop-f-test.true in
     let size : c.loop-f.f * length c.args.feeds.now + length c.args.feeds.now - c.loop-f.f * length c.args.feeds.now ≡ length c.args.feeds.now = omega arith in
     let stepped = subst (λ (m : ℕ). HaveStepped g.row.C (2 ^ g.row.K) c.args.root c.args.shares.now c.args.chains.now c.args.feeds.now c.loop-f.cells (take m (drop (c.loop-f.f * length c.args.feeds.now) c.args.values.now)) c.step.new.cells)
-        size c.step.ensures in
+    size c.step.ensures in
     let words : (c' : ℕ) → c' < g.row.C → unsigned_abs (value_of c.args.outlet.field (cell_at c.step.new.cells c.args.outlet.stage c')) ≤ 2 ^ 60 =
     load_word g.row.C (2 ^ g.row.K) c.args.root c.args.shares.now c.args.chains.now c.args.feeds.now c.args.outlet (length c.args.waves.now) c.loop-f.f c.args.cells.now c.loop-f.cells c.step.new.cells c.args.values.now
     c.loop-f.waves less c.requires.outlet c.requires.can c.loop-f.invariant.run stepped in
@@ -56,7 +56,7 @@ loop-f-preserved g c =
     let waves = c.loop-f.invariant.waves_long in
     let size : c.loop-f.f * length c.args.feeds.now + length c.args.feeds.now - c.loop-f.f * length c.args.feeds.now ≡ length c.args.feeds.now = omega arith in
     let stepped = subst (λ (m : ℕ). HaveStepped g.row.C (2 ^ g.row.K) c.args.root c.args.shares.now c.args.chains.now c.args.feeds.now c.loop-f.cells (take m (drop (c.loop-f.f * length c.args.feeds.now) c.args.values.now)) c.step.new.cells)
-        size c.step.ensures in
+    size c.step.ensures in
     record {
       long = c.step.auto.cells ∙ c.loop-f.invariant.long;
       waves_long = length-set c.loop-f.waves c.loop-f.f c.load.new.waves ∙ waves;

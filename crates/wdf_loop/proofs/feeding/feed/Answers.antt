@@ -39,20 +39,20 @@ loop-done-preserved g c =
     record {
       long = length-set c.loop-done.cells (feed_at c.args.feeds.now (length c.args.feeds.now - 1 - c.loop-done.done)).stage c.give.new.row ∙ long;
       fed = λ c' h j.
-        let put : cell_in c.give.new.row c' ≡ given (feed_at c.args.feeds.now (length c.args.feeds.now - 1 - c.loop-done.done)) (wave_in (slice_index_or c.args.values.now (length c.args.feeds.now - 1 - c.loop-done.done) []) c')
-            (cell_at c.loop-done.cells (feed_at c.args.feeds.now (length c.args.feeds.now - 1 - c.loop-done.done)).stage c') =
-        c.give.ensures c' h
-        ∙ ap (λ (r : List ℤ). given (feed_at c.args.feeds.now (length c.args.feeds.now - 1 - c.loop-done.done)) (wave_in r c') (cell_at c.loop-done.cells (feed_at c.args.feeds.now (length c.args.feeds.now - 1 - c.loop-done.done)).stage c')) row in
-        let old : (k : ℕ) → IsFedAnew (drop (length c.args.feeds.now - 1 - c.loop-done.done + 1) c.args.feeds.now) (drop (length c.args.feeds.now - 1 - c.loop-done.done + 1) (values_in c.args.values.now c')) k (cell_at c.args.cells.now k c') (cell_at c.loop-done.cells k c') =
-        (λ k. subst (λ (n : ℕ). IsFedAnew (drop n c.args.feeds.now) (drop n (values_in c.args.values.now c')) k (cell_at c.args.cells.now k c') (cell_at c.loop-done.cells k c')) now (c.loop-done.invariant.fed c' h k)) in
-        let more = feed_more (drop (length c.args.feeds.now - 1 - c.loop-done.done + 1) c.args.feeds.now) (drop (length c.args.feeds.now - 1 - c.loop-done.done + 1) (values_in c.args.values.now c'))
-            (feed_at c.args.feeds.now (length c.args.feeds.now - 1 - c.loop-done.done)) (wave_in (slice_index_or c.args.values.now (length c.args.feeds.now - 1 - c.loop-done.done) []) c') j c' c.args.cells.now c.loop-done.cells c.give.new.row
-            (omega arith) put old in
-        let behind = slice_set c.loop-done.cells (feed_at c.args.feeds.now (length c.args.feeds.now - 1 - c.loop-done.done)).stage c.give.new.row in
-        let whole = subst (λ (fs : List Feed). IsFedAnew fs
-            (wave_in (slice_index_or c.args.values.now (length c.args.feeds.now - 1 - c.loop-done.done) []) c' ∷ drop (length c.args.feeds.now - 1 - c.loop-done.done + 1) (values_in c.args.values.now c')) j
-            (cell_at c.args.cells.now j c') (cell_at behind j c')) (sym (feeds_from c.args.feeds.now (length c.args.feeds.now - 1 - c.loop-done.done) small)) more in
-        let all = subst (λ (zs : List ℤ). IsFedAnew (drop (length c.args.feeds.now - 1 - c.loop-done.done) c.args.feeds.now) zs j (cell_at c.args.cells.now j c') (cell_at behind j c'))
-            (sym (values_from c.args.values.now c' (length c.args.feeds.now - 1 - c.loop-done.done) place)) whole in
-        subst (λ (n : ℕ). IsFedAnew (drop n c.args.feeds.now) (drop n (values_in c.args.values.now c')) j (cell_at c.args.cells.now j c') (cell_at behind j c')) next all;
+          let put : cell_in c.give.new.row c' ≡ given (feed_at c.args.feeds.now (length c.args.feeds.now - 1 - c.loop-done.done)) (wave_in (slice_index_or c.args.values.now (length c.args.feeds.now - 1 - c.loop-done.done) []) c')
+          (cell_at c.loop-done.cells (feed_at c.args.feeds.now (length c.args.feeds.now - 1 - c.loop-done.done)).stage c') =
+          c.give.ensures c' h
+          ∙ ap (λ (r : List ℤ). given (feed_at c.args.feeds.now (length c.args.feeds.now - 1 - c.loop-done.done)) (wave_in r c') (cell_at c.loop-done.cells (feed_at c.args.feeds.now (length c.args.feeds.now - 1 - c.loop-done.done)).stage c')) row in
+          let old : (k : ℕ) → IsFedAnew (drop (length c.args.feeds.now - 1 - c.loop-done.done + 1) c.args.feeds.now) (drop (length c.args.feeds.now - 1 - c.loop-done.done + 1) (values_in c.args.values.now c')) k (cell_at c.args.cells.now k c') (cell_at c.loop-done.cells k c') =
+          (λ k. subst (λ (n : ℕ). IsFedAnew (drop n c.args.feeds.now) (drop n (values_in c.args.values.now c')) k (cell_at c.args.cells.now k c') (cell_at c.loop-done.cells k c')) now (c.loop-done.invariant.fed c' h k)) in
+          let more = feed_more (drop (length c.args.feeds.now - 1 - c.loop-done.done + 1) c.args.feeds.now) (drop (length c.args.feeds.now - 1 - c.loop-done.done + 1) (values_in c.args.values.now c'))
+          (feed_at c.args.feeds.now (length c.args.feeds.now - 1 - c.loop-done.done)) (wave_in (slice_index_or c.args.values.now (length c.args.feeds.now - 1 - c.loop-done.done) []) c') j c' c.args.cells.now c.loop-done.cells c.give.new.row
+          (omega arith) put old in
+          let behind = slice_set c.loop-done.cells (feed_at c.args.feeds.now (length c.args.feeds.now - 1 - c.loop-done.done)).stage c.give.new.row in
+          let whole = subst (λ (fs : List Feed). IsFedAnew fs
+          (wave_in (slice_index_or c.args.values.now (length c.args.feeds.now - 1 - c.loop-done.done) []) c' ∷ drop (length c.args.feeds.now - 1 - c.loop-done.done + 1) (values_in c.args.values.now c')) j
+          (cell_at c.args.cells.now j c') (cell_at behind j c')) (sym (feeds_from c.args.feeds.now (length c.args.feeds.now - 1 - c.loop-done.done) small)) more in
+          let all = subst (λ (zs : List ℤ). IsFedAnew (drop (length c.args.feeds.now - 1 - c.loop-done.done) c.args.feeds.now) zs j (cell_at c.args.cells.now j c') (cell_at behind j c'))
+          (sym (values_from c.args.values.now c' (length c.args.feeds.now - 1 - c.loop-done.done) place)) whole in
+          subst (λ (n : ℕ). IsFedAnew (drop n c.args.feeds.now) (drop n (values_in c.args.values.now c')) j (cell_at c.args.cells.now j c') (cell_at behind j c')) next all;
     }
