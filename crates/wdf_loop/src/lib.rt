@@ -4,12 +4,15 @@
 
 mod cell;
 mod chain;
+mod ends;
 mod feed;
 mod field;
+mod leaf;
 mod limited;
 mod mark;
 mod place;
 mod share;
+mod stage;
 mod sums;
 #[cfg(test)]
 mod tests;
