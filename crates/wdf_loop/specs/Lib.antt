@@ -2,5 +2,6 @@ pub mod Cells
 pub mod Layouts
 pub mod Leaves
 pub mod Limiting
+pub mod Marked
 pub mod Places
 pub mod Stages
