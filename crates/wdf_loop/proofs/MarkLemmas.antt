@@ -59,18 +59,18 @@ owns count (parallel m a b raw out d x y) = own-mark count (stage_of (parallel m
 -- ---- what it takes
 
 -- an element, by the list of down slots
-abbrev IsElementAt : List ℕ → ℕ → ℕ → Type 0
+abbrev pub IsElementAt : List ℕ → ℕ → ℕ → Type 0
 IsElementAt slots up down = (up < length slots) × (down ≡ slot_at slots up)
 
-element_at : (slots : List ℕ) (p : Branch) (up down : ℕ) → up ≡ p.up → down ≡ p.down → IsLeafBranch slots p → IsElementAt slots up down
+pub element_at : (slots : List ℕ) (p : Branch) (up down : ℕ) → up ≡ p.up → down ≡ p.down → IsLeafBranch slots p → IsElementAt slots up down
 element_at slots p up down e f h = (subst (λ (i : ℕ). i < length slots) (sym e) h.0, f ∙ (h.1 ∙ ap (slot_at slots) (sym e)))
 
-abbrev Below : List ℕ → ℕ → Branch → Mark → Type 0
+abbrev pub Below : List ℕ → ℕ → Branch → Mark → Type 0
 Below slots count own k =
     (IsElementAt slots k.below k.onward × IsElementAt slots k.up k.down)
     ⊎ ((count ≤ k.below) × (own.up ≡ k.below) × (own.down ≡ k.onward) × (IsElementAt slots k.up k.down ⊎ (count ≤ k.up)))
 
-below-takes : (slots : List ℕ) (own : Branch) (k : Junction) → length slots ≤ own.up → Takes slots (length slots) own k
+pub below-takes : (slots : List ℕ) (own : Branch) (k : Junction) → length slots ≤ own.up → Takes slots (length slots) own k
     → Below slots (length slots) own (mark_of (length slots) (stage_of k))
 below-takes slots own k high (inl (second, inl first)) =
     let h = hangs_swapped (length slots) k second.0 in
@@ -91,7 +91,7 @@ below-takes slots own k high (inr (tree, beside)) =
     by h (inl e) = inl (element_at slots (first_part k) _ _ h.0 h.1 e)
     by h (inr e) = inr (omega (arith, h.0, e))
 
-part_of : (count : ℕ) (own : Branch) (k : Junction) → IsPart own k
+pub part_of : (count : ℕ) (own : Branch) (k : Junction) → IsPart own k
     → (((mark_of count (stage_of k)).up ≡ own.up) × ((mark_of count (stage_of k)).down ≡ own.down)) ⊎ ((mark_of count (stage_of k)).below ≡ own.up)
 part_of count own k part = by (cases_lt (second_part k).up count) part
   where
@@ -132,7 +132,7 @@ some_written (Root a b m x y) = omega arith
 some_written (DownSeries a b d m x y) = omega arith
 some_written (DownParallel a b d raw x y) = omega arith
 
-room : (ops : List Op) (next end : ℕ) → InOrder next ops end → next + length ops ≤ end
+pub room : (ops : List Op) (next end : ℕ) → InOrder next ops end → next + length ops ≤ end
 room [] next end h = omega (arith, h)
 room (op ∷ ops) next end h = let rest = room ops (next + written_by op) end h.2 in let some = some_written op in omega (arith, rest, some)
 
