@@ -4,4 +4,5 @@ pub mod Leaves
 pub mod Limiting
 pub mod Marked
 pub mod Places
+pub mod Rows
 pub mod Stages
