@@ -11,6 +11,7 @@ mod leaf;
 mod limited;
 mod mark;
 mod place;
+mod row;
 mod share;
 mod stage;
 mod sums;
