@@ -40,7 +40,7 @@ behind : (s : ScheduleValue) (sch : IsSchedule s) (marks : List Mark) (i j : ℕ
 behind s sch marks i j own next out sent (inl h) = inl (listed s sch _ _ h.0, listed s sch _ _ h.1)
 behind s sch marks i j own next out sent (inr h) = inr (record { before = i; next = next; tree = h.0; out = out ∙ h.1; sent = sent ∙ h.2 })
 
-own-at : (s : ScheduleValue) (sch : IsSchedule s) (i : ℕ) → i ≤ length sch.joined.junctions
+pub own-at : (s : ScheduleValue) (sch : IsSchedule s) (i : ℕ) → i ≤ length sch.joined.junctions
     → ((mark_at (stage_marks s sch) i).out ≡ (own_branch (junction_at (junctions_of s sch) i)).up)
     × ((mark_at (stage_marks s sch) i).sent ≡ (own_branch (junction_at (junctions_of s sch) i)).down)
 own-at s sch i small =

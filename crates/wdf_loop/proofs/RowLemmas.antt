@@ -1,9 +1,9 @@
 -- The stages that the code makes are a row.
 use Rattle.std.proofs.Common.{◌≡◌, ℕ, zero, suc, ◌+◌, ◌-◌, ◌/◌, ◌<◌, ◌≤◌, List, [], ◌∷◌, ◌++◌, length, get_or, map, refl, ap, sym, ◌∙◌, subst, arith}
-use Rattle.std.specs.Prelude.{ℤ, pos, false}
+use Rattle.std.specs.Prelude.{ℤ, pos, true, false}
 use Rattle.std.specs.List.{range_with_len}
 use mathlib.Core.Logic.{◌⊎◌, inl, inr}
-use Rattle.std.proofs.lemmas.Bool.{cases_lt, cond_both}
+use Rattle.std.proofs.lemmas.Bool.{cases_lt, cases_order, cond_both}
 use Rattle.std.proofs.lemmas.List.{get_or_append_left, get_or_at, get_or-map, length-map}
 use Rattle.wdf_law.specs.Network.{IsNetwork, elements, unit_of}
 use Rattle.wdf_sched.specs.declared.op.Op.{Op}
@@ -16,13 +16,14 @@ use Rattle.wdf_loop.specs.declared.share.Share.{Share}
 use Rattle.wdf_loop.specs.declared.stage.Stage.{Stage}
 use Rattle.wdf_loop.specs.Layouts.{share_at, mark_at, IsJunctionStage, IsRootStage, IsSmallStage, ShowsSlot}
 use Rattle.wdf_loop.specs.Leaves.{sign_in}
+use Rattle.wdf_loop.specs.Marked.{IsPartOf}
 use Rattle.wdf_loop.specs.Rows.{IsRow, mark_in, share_in}
 use Rattle.wdf_loop.specs.Stages.{IsPair, is_swapped, op_at, stage_at, stages_of, mark_of, share_of, mark_by, share_by}
 use Rattle.wdf_loop.proofs.JoinLemmas.{junction_at}
-use Rattle.wdf_loop.proofs.OpLemmas.{each_at, around, around-length, up_at, root_at, mirror_at, root_junction, stage_of, pair_at, stage_at-around, stages-around, Writes, written}
+use Rattle.wdf_loop.proofs.OpLemmas.{each_at, around, around-length, up_at, root_at, mirror_at, down_at, root_junction, stage_of, pair_at, stage_at-around, stages-around, Writes, written}
 use Rattle.wdf_loop.proofs.CountLemmas.{marks_of}
 use Rattle.wdf_loop.proofs.MarkLemmas.{hangs_swapped, hangs_straight, junctions_of, root_op, stage_marks, stages_count, mark_at-stage}
-use Rattle.wdf_loop.proofs.MarkedLemmas.{marks-length, is_marked}
+use Rattle.wdf_loop.proofs.MarkedLemmas.{marks-length, is_marked, own-at}
 use Rattle.wdf_loop.proofs.StageLemmas.{HasOps, multiplier, junction_stage, root_stage, junction_small, root_small}
 
 abbrev count_of : ScheduleValue → ℕ
@@ -208,3 +209,139 @@ share-parallel q count sign z =
 mark-raw : (count : ℕ) (z : Stage) → (mark_of count z).raw ≡ z.raw
 mark-raw count z =
     cond_both (is_swapped count z) (mark_by z z.second z.first) (mark_by z z.first z.second) (λ (k : Mark). k.raw ≡ z.raw) (λ _. refl) (λ _. refl)
+
+down_shown : (count : ℕ) (k : Junction) (i : ℕ) → ((first_part k).down ≡ i) ⊎ ((second_part k).down ≡ i)
+    → ((mark_of count (stage_of k)).down ≡ i) ⊎ ((mark_of count (stage_of k)).onward ≡ i)
+down_shown count k i h = by (cases_lt (second_part k).up count) h
+  where
+    by : ((second_part k).up < count) ⊎ (count ≤ (second_part k).up) → ((first_part k).down ≡ i) ⊎ ((second_part k).down ≡ i)
+        → ((mark_of count (stage_of k)).down ≡ i) ⊎ ((mark_of count (stage_of k)).onward ≡ i)
+    by (inl small) (inl e) = let h = hangs_swapped count k small in inr (h.3 ∙ e)
+    by (inl small) (inr e) = let h = hangs_swapped count k small in inl (h.1 ∙ e)
+    by (inr large) (inl e) = let h = hangs_straight count k large in inl (h.1 ∙ e)
+    by (inr large) (inr e) = let h = hangs_straight count k large in inr (h.3 ∙ e)
+
+down_writes : (k : Junction) (i : ℕ) → Writes (down_op k) i → ((first_part k).down ≡ i) ⊎ ((second_part k).down ≡ i)
+down_writes (series m a b out d x y) i h = h
+down_writes (parallel m a b raw out d x y) i h = h
+
+up_writes : (k : Junction) (i : ℕ) → Writes (up_op k) i → ((own_branch k).up ≡ i) ⊎ (((stage_of k).parallel ≡ true) × ((stage_of k).raw ≡ i))
+up_writes (series m a b out d x y) i h = inl h
+up_writes (parallel m a b raw out d x y) i (inl h) = inr (refl, h)
+up_writes (parallel m a b raw out d x y) i (inr h) = inl h
+
+abbrev IsShown : (s : ScheduleValue) → IsSchedule s → ℕ → Type 0
+IsShown s sch i =
+    (j : ℕ) × ((j ≤ length sch.joined.junctions) × ShowsSlot (share_at (stage_shares s sch) j) (mark_at (stage_marks s sch) j) i)
+
+shows_down : (s : ScheduleValue) (sch : IsSchedule s) (i j : ℕ) → j ≤ length sch.joined.junctions
+    → ((mark_at (stage_marks s sch) j).down ≡ i) ⊎ ((mark_at (stage_marks s sch) j).onward ≡ i) → IsShown s sch i
+shows_down s sch i j most (inl h) = (j, (most, inr (inr (inl h))))
+shows_down s sch i j most (inr h) = (j, (most, inr (inr (inr (inl h)))))
+
+shows_part : (s : ScheduleValue) (sch : IsSchedule s) (i j : ℕ) → j ≤ length sch.joined.junctions
+    → ((mark_at (stage_marks s sch) j).up ≡ i) ⊎ ((mark_at (stage_marks s sch) j).below ≡ i) → IsShown s sch i
+shows_part s sch i j most (inl h) = (j, (most, inl h))
+shows_part s sch i j most (inr h) = (j, (most, inr (inl h)))
+
+-- by the operation that writes it
+shows_up : (s : ScheduleValue) (sch : IsSchedule s) → IsNetwork s.net → (i k : ℕ) → k < length sch.joined.junctions
+    → Writes (up_op (junction_at sch.joined.junctions k)) i → IsShown s sch i
+shows_up s sch net i k small w = by (up_writes (junction_at sch.joined.junctions k) i w)
+  where
+    part : (j : ℕ) → IsPartOf (stage_marks s sch) k j → (mark_at (stage_marks s sch) k).out ≡ i
+        → ((mark_at (stage_marks s sch) j).up ≡ i) ⊎ ((mark_at (stage_marks s sch) j).below ≡ i)
+    part j h e = either h.part
+      where
+        either : (((mark_at (stage_marks s sch) j).up ≡ (mark_at (stage_marks s sch) k).out) × ((mark_at (stage_marks s sch) j).down ≡ (mark_at (stage_marks s sch) k).sent))
+            ⊎ ((mark_at (stage_marks s sch) j).below ≡ (mark_at (stage_marks s sch) k).out)
+            → ((mark_at (stage_marks s sch) j).up ≡ i) ⊎ ((mark_at (stage_marks s sch) j).below ≡ i)
+        either (inl f) = inl (f.0 ∙ e)
+        either (inr f) = inr (f ∙ e)
+
+    by : ((own_branch (junction_at sch.joined.junctions k)).up ≡ i)
+        ⊎ (((stage_of (junction_at sch.joined.junctions k)).parallel ≡ true) × ((stage_of (junction_at sch.joined.junctions k)).raw ≡ i)) → IsShown s sch i
+    by (inl e) =
+        let marked = is_marked s sch net in
+        let own = own-at s sch k (omega (arith, small)) in
+        let out = own.0 ∙ (ap (λ (z : Junction). (own_branch z).up) (at_junction s sch k small) ∙ e) in
+        let place = marked.taken k small in
+        shows_part s sch i place.0 place.1.0 (part place.0 place.1.1 out)
+    by (inr e) =
+        let most : k ≤ length sch.joined.junctions = omega (arith, small) in
+        let z = stage_of (junction_at sch.joined.junctions k) in
+        let share = share_at-stage s sch k most ∙ ap (λ (j : Junction). share_for s (stage_of j)) (at_junction s sch k small) in
+        let mark = mark_at-stage s sch k most ∙ ap (λ (j : Junction). mark_of (count_of s) (stage_of j)) (at_junction s sch k small) in
+        (k, (most, inr (inr (inr (inr (
+          ap (λ (x : Share). x.parallel) share ∙ (share-parallel (unit_of s.net) (count_of s) (sign_in s.net (mark_of (count_of s) z).up) z ∙ e.0),
+          ap (λ (x : Mark). x.raw) mark ∙ (mark-raw (count_of s) z ∙ e.1),
+        ))))))
+
+shows_root : (s : ScheduleValue) (sch : IsSchedule s) (i : ℕ) → Writes (root_op s sch) i → IsShown s sch i
+shows_root s sch i w =
+    let r = sch.joined in
+    let n = length r.junctions in
+    let mark = mark_at-stage s sch n (omega arith) ∙ ap (λ (k : Junction). mark_of (count_of s) (stage_of k)) (at_root s sch) in
+    shows_down s sch i n (omega arith)
+    (subst (λ (z : Mark). (z.down ≡ i) ⊎ (z.onward ≡ i)) (sym mark)
+    (down_shown (count_of s) (root_junction r.m r.left.up r.right.up r.left.down r.right.down) i w))
+
+shows_falling : (s : ScheduleValue) (sch : IsSchedule s) (i j : ℕ) → j < length sch.joined.junctions
+    → Writes (down_op (junction_at sch.joined.junctions j)) i → IsShown s sch i
+shows_falling s sch i j small w =
+    let most : j ≤ length sch.joined.junctions = omega (arith, small) in
+    let mark = mark_at-stage s sch j most ∙ ap (λ (k : Junction). mark_of (count_of s) (stage_of k)) (at_junction s sch j small) in
+    shows_down s sch i j most
+    (subst (λ (z : Mark). (z.down ≡ i) ⊎ (z.onward ≡ i)) (sym mark)
+    (down_shown (count_of s) (junction_at sch.joined.junctions j) i (down_writes (junction_at sch.joined.junctions j) i w)))
+
+shown : (s : ScheduleValue) (sch : IsSchedule s) → IsNetwork s.net → (i : ℕ) → i < s.slot_count → IsShown s sch i
+shown s sch net i small = by (cases_lt i (count_of s))
+  where
+    at : (k : ℕ) → k < length (around sch.joined.junctions (root_op s sch)) → Writes (op_at (around sch.joined.junctions (root_op s sch)) k) i → IsShown s sch i
+    at k few w = side (cases_order k (length sch.joined.junctions))
+      where
+        side : (k ≡ length sch.joined.junctions) ⊎ ((k < length sch.joined.junctions) ⊎ (length sch.joined.junctions < k)) → IsShown s sch i
+        side (inl same) =
+            shows_root s sch i
+            (subst (λ (o : Op). Writes o i) (ap (op_at (around sch.joined.junctions (root_op s sch))) same ∙ root_at sch.joined.junctions (root_op s sch)) w)
+        side (inr (inl before)) =
+            shows_up s sch net i k before (subst (λ (o : Op). Writes o i) (up_at sch.joined.junctions (root_op s sch) k before) w)
+        side (inr (inr later)) =
+            let n = length sch.joined.junctions in
+            let long = around-length sch.joined.junctions (root_op s sch) in
+            let j : ℕ = n + n - k in
+            let back : k ≡ n + suc (k - n - 1) = omega (arith, later) in
+            let e : n + n - k + 1 + (k - n - 1) ≡ n = omega (arith, few, long, later) in
+            shows_falling s sch i (n + n - k) (omega (arith, later, few, long))
+            (subst (λ (o : Op). Writes o i)
+            (ap (op_at (around sch.joined.junctions (root_op s sch))) back ∙ down_at sch.joined.junctions (root_op s sch) (n + n - k) (k - n - 1) e) w)
+
+    by : (i < count_of s) ⊎ (count_of s ≤ i) → IsShown s sch i
+    by (inl h) = let marked = is_marked s sch net in let place = marked.every i h in shows_part s sch i place.0 place.1.0 place.1.1
+    by (inr h) =
+        let place = written (around sch.joined.junctions (root_op s sch)) (count_of s) s.slot_count i
+            (subst (λ (ops : List Op). InOrder (count_of s) ops s.slot_count) sch.joined.list sch.order) h small in
+        at place.0 place.1.0 place.1.1
+
+-- ---- all of it
+
+stage_row : (s : ScheduleValue) (sch : IsSchedule s) → IsNetwork s.net → IsRow s (stage_shares s sch) (stage_marks s sch)
+stage_row s sch net = record {
+  root = length sch.joined.junctions;
+  marked = is_marked s sch net;
+  shares_count = length-map (junctions_of s sch) (λ (k : Junction). share_for s (stage_of k)) ∙ stages_count s sch;
+  junctions = stages_are s sch;
+  turn = root_is s sch;
+  small = all_small s sch;
+  signs = signs_are s sch;
+  shown = shown s sch net;
+}
+
+pub made_row : (s : ScheduleValue) → IsSchedule s → IsNetwork s.net
+    → IsRow s (map (share_in s) (range_with_len 0 (length s.ops / 2 + 1))) (map (mark_in s) (range_with_len 0 (length s.ops / 2 + 1)))
+made_row s sch net =
+    let shares = made-list s sch (share_for s) in
+    let marks = made-list s sch (mark_of (count_of s)) in
+    subst (λ (xs : List Share). IsRow s xs (map (mark_in s) (range_with_len 0 (length s.ops / 2 + 1)))) (sym shares)
+    (subst (λ (xs : List Mark). IsRow s (stage_shares s sch) xs) (sym marks) (stage_row s sch net))
