@@ -9,10 +9,11 @@ use Rattle.wdf_law.specs.Network.{Network, IsNetwork, elements, numbers, times_i
 use Rattle.wdf_sched.specs.declared.op.Op.{Op}
 use Rattle.wdf_sched.specs.declared.op.Op.TheVariants.{UpSeries, UpParallel, Root, DownSeries, DownParallel}
 use Rattle.wdf_sched.specs.Operations.{InOrder, WritesFrom, written_by, part_slots, own_slots}
-use Rattle.wdf_sched.specs.Junctions.{Junction, series, parallel, up_op, down_op, first_part, second_part}
+use Rattle.wdf_sched.specs.Junctions.{Junction, series, parallel, up_op, down_op, first_part, second_part, own_branch}
 use Rattle.wdf_loop.specs.declared.mark.Mark.{Mark}
 use Rattle.wdf_loop.specs.Layouts.{mark_at}
 use Rattle.wdf_loop.specs.Stages.{mark_of}
+use Rattle.wdf_loop.proofs.JoinLemmas.{junction_at}
 use Rattle.wdf_loop.proofs.OpLemmas.{around, stage_of, root_junction}
 
 -- ---- own slots
@@ -206,3 +207,58 @@ not_both (k ∷ ks) zero (suc j) v most a b e f =
 not_both (k ∷ ks) (suc i) zero v most a b e f =
     let here = is_once k.below v f in let there = up_counts ks i v (omega (arith, a)) e in omega (arith, here, there, most)
 not_both (k ∷ ks) (suc i) (suc j) v most a b e f = not_both ks i j v (omega (arith, most)) (omega (arith, a)) (omega (arith, b)) e f
+
+-- ---- own slots by their places
+
+own_slots-append : (xs ys : List Op) → own_slots (xs ++ ys) ≡ own_slots xs ++ own_slots ys
+own_slots-append [] ys = refl
+own_slots-append (UpSeries a b out ∷ xs) ys = ap (λ (zs : List ℕ). out ∷ zs) (own_slots-append xs ys)
+own_slots-append (UpParallel a b m raw out ∷ xs) ys = ap (λ (zs : List ℕ). out ∷ zs) (own_slots-append xs ys)
+own_slots-append (Root a b m x y ∷ xs) ys = own_slots-append xs ys
+own_slots-append (DownSeries a b d m x y ∷ xs) ys = own_slots-append xs ys
+own_slots-append (DownParallel a b d raw x y ∷ xs) ys = own_slots-append xs ys
+
+down_owns : (j : Junction) → own_slots (reverse (down_op j ∷ [])) ≡ []
+down_owns (series m a b out d x y) = refl
+down_owns (parallel m a b raw out d x y) = refl
+
+no_owns : (js : List Junction) → own_slots (reverse (map down_op js)) ≡ []
+no_owns [] = refl
+no_owns (j ∷ js) =
+    ap own_slots (reverse-append (down_op j ∷ []) (map down_op js))
+    ∙ (own_slots-append (reverse (map down_op js)) (reverse (down_op j ∷ []))
+    ∙ (λ i. no_owns js i ++ down_owns j i))
+
+own_place : (js : List Junction) (rest : List Op) (i : ℕ) → own_slots rest ≡ [] → 1 ≤ times_in (own_slots (map up_op js ++ rest)) i
+    → (k : ℕ) × ((k < length js) × ((own_branch (junction_at js k)).up ≡ i))
+own_place [] rest i none h = let gone = ap (λ (xs : List ℕ). times_in xs i) none in absurd (omega (arith, h, gone))
+own_place (series m a b out d x y ∷ js) rest i none h = by (out == i) refl h (own_place js rest i none)
+  where
+    by : (c : Bool) → (out == i) ≡ c → 1 ≤ cond {A = ℕ} c 1 0 + times_in (own_slots (map up_op js ++ rest)) i
+        → (1 ≤ times_in (own_slots (map up_op js ++ rest)) i → (k : ℕ) × ((k < length js) × ((own_branch (junction_at js k)).up ≡ i)))
+        → (k : ℕ) × ((k < length (series m a b out d x y ∷ js)) × ((own_branch (junction_at (series m a b out d x y ∷ js) k)).up ≡ i))
+    by true e h more = (zero, (omega arith, eqb-true out i e))
+    by false e h more = let place = more (omega (arith, h)) in (suc place.0, (omega (arith, place.1.0), place.1.1))
+own_place (parallel m a b raw out d x y ∷ js) rest i none h = by (out == i) refl h (own_place js rest i none)
+  where
+    by : (c : Bool) → (out == i) ≡ c → 1 ≤ cond {A = ℕ} c 1 0 + times_in (own_slots (map up_op js ++ rest)) i
+        → (1 ≤ times_in (own_slots (map up_op js ++ rest)) i → (k : ℕ) × ((k < length js) × ((own_branch (junction_at js k)).up ≡ i)))
+        → (k : ℕ) × ((k < length (parallel m a b raw out d x y ∷ js)) × ((own_branch (junction_at (parallel m a b raw out d x y ∷ js) k)).up ≡ i))
+    by true e h more = (zero, (omega arith, eqb-true out i e))
+    by false e h more = let place = more (omega (arith, h)) in (suc place.0, (omega (arith, place.1.0), place.1.1))
+
+-- a part that is no element is the tree of a junction
+pub owned : (n : Network) (js : List Junction) (m a b x y j : ℕ) → IsNetwork n
+    → ((i : ℕ) → times_in (part_slots (around js (Root a b m x y))) i ≡ times_in (numbers n) i + times_in (own_slots (around js (Root a b m x y))) i)
+    → j < length (marks_of (length (elements n)) (js ++ root_junction m a b x y ∷ []))
+    → length (elements n) ≤ (mark_at (marks_of (length (elements n)) (js ++ root_junction m a b x y ∷ [])) j).up
+    → (k : ℕ) × ((k < length js) × ((own_branch (junction_at js k)).up ≡ (mark_at (marks_of (length (elements n)) (js ++ root_junction m a b x y ∷ [])) j).up))
+owned n js m a b x y j net parts small high =
+    let ks = js ++ root_junction m a b x y ∷ [] in
+    let marks = marks_of (length (elements n)) ks in
+    let v = (mark_at marks j).up in
+    let here : 1 ≤ times_in (mark_parts marks) v = up_counts marks j v small refl in
+    let same : times_in (mark_parts marks) v ≡ times_in (part_ups ks) v = parts-marks (length (elements n)) ks v in
+    let moved : times_in (part_slots (around js (Root a b m x y))) v ≡ times_in (part_ups ks) v = ap (λ (xs : List ℕ). times_in xs v) (parts-around js m a b x y) in
+    let gone : times_in (numbers n) v ≡ 0 = none_from (numbers n) (length (elements n)) v net.below high in
+    own_place js (Root a b m x y ∷ reverse (map down_op js)) v (no_owns js) (omega (arith, here, same, moved, gone, parts v))

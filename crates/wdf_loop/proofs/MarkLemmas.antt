@@ -136,7 +136,7 @@ pub room : (ops : List Op) (next end : ℕ) → InOrder next ops end → next + 
 room [] next end h = omega (arith, h)
 room (op ∷ ops) next end h = let rest = room ops (next + written_by op) end h.2 in let some = some_written op in omega (arith, rest, some)
 
-own_written : (k : Junction) → Writes (up_op k) (own_branch k).up
+pub own_written : (k : Junction) → Writes (up_op k) (own_branch k).up
 own_written (series m a b out d x y) = refl
 own_written (parallel m a b raw out d x y) = inr refl
 

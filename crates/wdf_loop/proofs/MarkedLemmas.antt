@@ -1,20 +1,21 @@
 -- The stages of a schedule hang together.
 use Rattle.std.proofs.Common.{◌≡◌, ℕ, zero, suc, ◌+◌, ◌<◌, ◌≤◌, List, [], ◌∷◌, length, refl, ap, sym, ◌∙◌, subst, arith}
 use mathlib.Core.Logic.{◌⊎◌, inl, inr}
-use Rattle.std.proofs.lemmas.List.{length-map}
+use Rattle.std.proofs.lemmas.Bool.{cases_order}
+use Rattle.std.proofs.lemmas.List.{get_or_append_left, length-map}
 use Rattle.wdf_law.specs.Network.{IsNetwork, elements, numbers, times_in}
 use Rattle.wdf_sched.specs.declared.op.Op.{Op}
 use Rattle.wdf_sched.specs.Operations.{InOrder, part_slots, own_slots}
-use Rattle.wdf_sched.specs.Junctions.{Junction, Branch, branch, first_part, second_part, own_branch, Join}
+use Rattle.wdf_sched.specs.Junctions.{Junction, series, up_op, Branch, branch, first_part, second_part, own_branch, Join}
 use Rattle.wdf_sched.specs.Schedules.{ScheduleValue, IsSchedule}
 use Rattle.wdf_loop.specs.declared.mark.Mark.{Mark}
 use Rattle.wdf_loop.specs.Layouts.{mark_at}
 use Rattle.wdf_loop.specs.Marked.{IsListed, IsBehind, IsPartOf, IsMarked}
-use Rattle.wdf_loop.specs.Stages.{mark_of}
+use Rattle.wdf_loop.specs.Stages.{mark_of, op_at}
 use Rattle.wdf_loop.proofs.JoinLemmas.{junction_at, IsLeafBranch, takes, takes_first, In, IsPart, own_taken, joined}
-use Rattle.wdf_loop.proofs.OpLemmas.{around, around-length, root_junction, stage_of}
-use Rattle.wdf_loop.proofs.CountLemmas.{marks_of, mark_parts, most_once, some_place, one_up, one_below, not_both}
-use Rattle.wdf_loop.proofs.MarkLemmas.{Hangs, hangs_swapped, owns, IsElementAt, element_at, Below, below-takes, part_of, junctions_of, root_op, stage_marks, stages_count, mark_at-stage, room, own_high}
+use Rattle.wdf_loop.proofs.OpLemmas.{around, around-length, up_at, root_junction, stage_of, Writes, written_once}
+use Rattle.wdf_loop.proofs.CountLemmas.{marks_of, mark_parts, most_once, some_place, one_up, one_below, not_both, owned}
+use Rattle.wdf_loop.proofs.MarkLemmas.{Hangs, hangs_swapped, owns, IsElementAt, element_at, Below, below-takes, part_of, junctions_of, root_op, stage_marks, stages_count, mark_at-stage, room, own_high, own_written}
 
 abbrev count_of : ScheduleValue → ℕ
 count_of s = length (elements s.net)
@@ -127,6 +128,42 @@ taken s sch net i small =
         let most : j ≤ length sch.joined.junctions = omega (arith, few, stages_count s sch) in
         (j, (most, later_part j later most (part_of (count_of s) (own_branch (junction_at (junctions_of s sch) i)) (junction_at (junctions_of s sch) j) part)))
 
+in_order : (s : ScheduleValue) (sch : IsSchedule s) → InOrder (count_of s) (around sch.joined.junctions (root_op s sch)) s.slot_count
+in_order s sch = subst (λ (ops : List Op). InOrder (count_of s) ops s.slot_count) sch.joined.list sch.order
+
+at_junction : (s : ScheduleValue) (sch : IsSchedule s) (i : ℕ) → i < length sch.joined.junctions
+    → junction_at (junctions_of s sch) i ≡ junction_at sch.joined.junctions i
+at_junction s sch i small = get_or_append_left sch.joined.junctions (root_of s sch ∷ []) (series 0 0 0 0 0 0 0) i small
+
+-- the own slot of a junction
+own-slot : (s : ScheduleValue) (sch : IsSchedule s) (i : ℕ) → i < length sch.joined.junctions
+    → (mark_at (stage_marks s sch) i).out ≡ (own_branch (junction_at sch.joined.junctions i)).up
+own-slot s sch i small =
+    let own = own-at s sch i (omega (arith, small)) in own.0 ∙ ap (λ (k : Junction). (own_branch k).up) (at_junction s sch i small)
+
+out_written : (s : ScheduleValue) (sch : IsSchedule s) (i : ℕ) → i < length sch.joined.junctions
+    → Writes (op_at (around sch.joined.junctions (root_op s sch)) i) (mark_at (stage_marks s sch) i).out
+out_written s sch i small =
+    subst (λ (o : Op). Writes o (mark_at (stage_marks s sch) i).out) (sym (up_at sch.joined.junctions (root_op s sch) i small))
+    (subst (Writes (up_op (junction_at sch.joined.junctions i))) (sym (own-slot s sch i small)) (own_written (junction_at sch.joined.junctions i)))
+
+not_twice : (s : ScheduleValue) (sch : IsSchedule s) (i j : ℕ) → i < j → j < length sch.joined.junctions
+    → (mark_at (stage_marks s sch) i).out ≡ (mark_at (stage_marks s sch) j).out → ⊥
+not_twice s sch i j less small e =
+    let ops = around sch.joined.junctions (root_op s sch) in
+    written_once ops (count_of s) s.slot_count i j (mark_at (stage_marks s sch) j).out (in_order s sch) less
+    (omega (arith, small, around-length sch.joined.junctions (root_op s sch)))
+    (subst (Writes (op_at ops i)) e (out_written s sch i (omega (arith, less, small)))) (out_written s sch j small)
+
+once_out : (s : ScheduleValue) (sch : IsSchedule s) (i j : ℕ) → i < length sch.joined.junctions → j < length sch.joined.junctions
+    → (mark_at (stage_marks s sch) i).out ≡ (mark_at (stage_marks s sch) j).out → i ≡ j
+once_out s sch i j a b e = by (cases_order i j)
+  where
+    by : (i ≡ j) ⊎ ((i < j) ⊎ (j < i)) → i ≡ j
+    by (inl same) = same
+    by (inr (inl less)) = absurd (not_twice s sch i j less b e)
+    by (inr (inr less)) = absurd (not_twice s sch j i less a (sym e))
+
 -- ---- each part once
 
 once : (s : ScheduleValue) (sch : IsSchedule s) → IsNetwork s.net → (i : ℕ)
@@ -160,6 +197,12 @@ is_marked s sch net =
       below = below s sch;
       beside = beside s sch;
       trees = λ i h. let own = own-at s sch i (omega (arith, h)) in let high = own_high s sch i h in omega (arith, own.0, high);
+      once_out = once_out s sch;
+      owned = λ j most high.
+          let place = owned s.net js sch.joined.m sch.joined.left.up sch.joined.right.up sch.joined.left.down sch.joined.right.down j net
+              (subst (λ (ops : List Op). (i : ℕ) → times_in (part_slots ops) i ≡ times_in (numbers s.net) i + times_in (own_slots ops) i) sch.joined.list sch.parts)
+              (omega (arith, most, long)) high in
+          (place.0, (place.1.0, own-slot s sch place.0 place.1.0 ∙ place.1.1));
       taken = taken s sch net;
       every = every s sch net;
       once_up = λ i j a b e. let one = once s sch net (mark_at marks j).up in

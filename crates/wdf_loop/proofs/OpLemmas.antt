@@ -170,3 +170,25 @@ written_above (op ∷ ops) next end zero i h small w = above op next i h.1 w
 written_above (op ∷ ops) next end (suc k) i h small w =
     let rest = written_above ops (next + written_by op) end k i h.2 (omega (arith, small)) w in
     omega (arith, rest)
+
+-- and none twice
+beneath : (op : Op) (next i : ℕ) → WritesFrom next op → Writes op i → i < next + written_by op
+beneath (UpSeries a b out) next i w h = omega (arith, w, h)
+beneath (UpParallel a b m raw out) next i w (inl h) = omega (arith, w.0, h)
+beneath (UpParallel a b m raw out) next i w (inr h) = omega (arith, w.1, h)
+beneath (Root a b m x y) next i w (inl h) = omega (arith, w.0, h)
+beneath (Root a b m x y) next i w (inr h) = omega (arith, w.1, h)
+beneath (DownSeries a b d m x y) next i w (inl h) = omega (arith, w.0, h)
+beneath (DownSeries a b d m x y) next i w (inr h) = omega (arith, w.1, h)
+beneath (DownParallel a b d raw x y) next i w (inl h) = omega (arith, w.0, h)
+beneath (DownParallel a b d raw x y) next i w (inr h) = omega (arith, w.1, h)
+
+pub written_once : (ops : List Op) (next end k l i : ℕ) → InOrder next ops end → k < l → l < length ops → Writes (op_at ops k) i → Writes (op_at ops l) i → ⊥
+written_once [] next end k l i h less small w v = omega (arith, small)
+written_once (op ∷ ops) next end k zero i h less small w v = omega (arith, less)
+written_once (op ∷ ops) next end zero (suc l) i h less small w v =
+    let low = beneath op next i h.1 w in
+    let high = written_above ops (next + written_by op) end l i h.2 (omega (arith, small)) v in
+    omega (arith, low, high)
+written_once (op ∷ ops) next end (suc k) (suc l) i h less small w v =
+    written_once ops (next + written_by op) end k l i h.2 (omega (arith, less)) (omega (arith, small)) w v

@@ -1,4 +1,5 @@
 pub mod Cells
+pub mod Chains
 pub mod Layouts
 pub mod Leaves
 pub mod Limiting

@@ -32,8 +32,10 @@ pub record IsMarked (s : ScheduleValue) (root : ℕ) (marks : List Mark) : Type 
       → (IsListed s (mark_at marks j).below (mark_at marks j).onward × IsListed s (mark_at marks j).up (mark_at marks j).down) ⊎ IsBehind s marks j
   -- beside it is an element or a tree
   pub beside : (j : ℕ) → j ≤ root → IsListed s (mark_at marks j).up (mark_at marks j).down ⊎ (length (elements s.net) ≤ (mark_at marks j).up)
-  -- the tree of each junction is a part of a later stage
+  -- the tree of each junction is a part of a later stage; no two have one slot, and each tree beside a stage is one of them
   pub trees : (i : ℕ) → i < root → length (elements s.net) ≤ (mark_at marks i).out
+  pub once_out : (i j : ℕ) → i < root → j < root → (mark_at marks i).out ≡ (mark_at marks j).out → i ≡ j
+  pub owned : (j : ℕ) → j ≤ root → length (elements s.net) ≤ (mark_at marks j).up → (i : ℕ) × ((i < root) × ((mark_at marks i).out ≡ (mark_at marks j).up))
   pub taken : (i : ℕ) → i < root → (j : ℕ) × ((j ≤ root) × IsPartOf marks i j)
   -- each element is a part of some stage, and no two parts are the same
   pub every : (k : ℕ) → k < length (elements s.net) → (j : ℕ) × ((j ≤ root) × (((mark_at marks j).up ≡ k) ⊎ ((mark_at marks j).below ≡ k)))

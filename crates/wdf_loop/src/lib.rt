@@ -4,6 +4,7 @@
 
 mod cell;
 mod chain;
+mod chains;
 mod ends;
 mod feed;
 mod field;
