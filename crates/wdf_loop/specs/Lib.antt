@@ -1,5 +1,6 @@
 pub mod Cells
 pub mod Chains
+pub mod Feeds
 pub mod Layouts
 pub mod Leaves
 pub mod Limiting

@@ -7,6 +7,7 @@ mod chain;
 mod chains;
 mod ends;
 mod feed;
+mod feeds;
 mod field;
 mod leaf;
 mod limited;
