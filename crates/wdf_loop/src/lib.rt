@@ -9,6 +9,7 @@ mod ends;
 mod feed;
 mod feeds;
 mod field;
+mod layout;
 mod leaf;
 mod limited;
 mod mark;
