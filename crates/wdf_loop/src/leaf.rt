@@ -13,7 +13,7 @@ pub(crate) struct Leaf {
 }
 
 // The leaf with this number.
-#[tactic(auto, using(crate::proofs::LeafLemmas::found_either, crate::proofs::LayoutLemmas::is_layout))]
+#[tactic(auto, using(crate::proofs::LeafLemmas::found_either))]
 fn leaf_in(tree: &Tree, number: u32) -> Option<Leaf>
     ensures { result ≡ found (elements_of (adaptor_tree tree.now)) number }
 {
@@ -35,7 +35,7 @@ fn leaf_in(tree: &Tree, number: u32) -> Option<Leaf>
 }
 
 // The element with this number.
-#[tactic(auto, using(crate::proofs::LeafLemmas::found_either, crate::proofs::LayoutLemmas::is_layout))]
+#[tactic(auto, using(crate::proofs::LeafLemmas::found_either))]
 fn leaf_of(net: &Net, number: u32) -> Option<Leaf>
     ensures { result ≡ found (elements net.now) number }
 {
