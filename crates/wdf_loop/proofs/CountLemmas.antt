@@ -3,12 +3,12 @@ use Rattle.std.proofs.Common.{◌≡◌, ℕ, zero, suc, ◌+◌, ◌<◌, ◌�
 use Rattle.std.specs.Prelude.{reverse, All, nat_lt}
 use mathlib.Core.Logic.{◌⊎◌, inl, inr}
 use Rattle.std.proofs.lemmas.Bool.{eqb-true, eq-eqb, cases_lt}
-use Rattle.std.proofs.lemmas.List.{reverse-append, append_assoc}
+use Rattle.std.proofs.lemmas.List.{reverse-append}
 use Rattle.std.proofs.lemmas.List.Elements.{All-head, All-tail}
 use Rattle.wdf_law.specs.Network.{Network, IsNetwork, elements, numbers, times_in}
 use Rattle.wdf_sched.specs.declared.op.Op.{Op}
 use Rattle.wdf_sched.specs.declared.op.Op.TheVariants.{UpSeries, UpParallel, Root, DownSeries, DownParallel}
-use Rattle.wdf_sched.specs.Operations.{InOrder, WritesFrom, written_by, part_slots, own_slots}
+use Rattle.wdf_sched.specs.Operations.{InOrder, part_slots, own_slots}
 use Rattle.wdf_sched.specs.Junctions.{Junction, series, parallel, up_op, down_op, first_part, second_part, own_branch}
 use Rattle.wdf_loop.specs.declared.mark.Mark.{Mark}
 use Rattle.wdf_loop.specs.Layouts.{mark_at}
@@ -141,9 +141,11 @@ pub most_once : (n : Network) (js : List Junction) (m a b x y end i : ℕ) → I
 most_once n js m a b x y end i net order parts =
     let own = own_once (around js (Root a b m x y)) (length (elements n)) end i order in
     let total : times_in (mark_parts (marks_of (length (elements n)) (js ++ root_junction m a b x y ∷ []))) i ≡ times_in (numbers n) i + times_in (own_slots (around js (Root a b m x y))) i =
-    parts-marks (length (elements n)) (js ++ root_junction m a b x y ∷ []) i ∙ (ap (λ (xs : List ℕ). times_in xs i) (sym (parts-around js m a b x y)) ∙ parts) in
-    (most (times_in (own_slots (around js (Root a b m x y))) i) (times_in (mark_parts (marks_of (length (elements n)) (js ++ root_junction m a b x y ∷ []))) i)
-    own.0 own.1 total (cases_lt i (length (elements n))), λ h. let none = own.1 h in let here = net.once i h in omega (arith, total, none, here))
+    parts-marks (length (elements n)) (js ++ root_junction m a b x y ∷ []) i ∙ (ap (λ (xs : List ℕ). times_in xs i) (sym (parts-around js m a b x y)) ∙ parts) in (
+      most (times_in (own_slots (around js (Root a b m x y))) i) (times_in (mark_parts (marks_of (length (elements n)) (js ++ root_junction m a b x y ∷ []))) i)
+          own.0 own.1 total (cases_lt i (length (elements n))),
+      λ h. let none = own.1 h in let here = net.once i h in omega (arith, total, none, here),
+    )
   where
     most : (s t : ℕ) → s ≤ 1 → (i < length (elements n) → s ≡ 0) → t ≡ times_in (numbers n) i + s → (i < length (elements n)) ⊎ (length (elements n) ≤ i) → t ≤ 1
     most s t few none total (inl h) = let gone = none h in let here = net.once i h in omega (arith, total, gone, here)

@@ -1,25 +1,25 @@
 -- What an element reflects, by its sign and what it is fed.
-use Rattle.std.proofs.Common.{◌≡◌, ℕ, zero, suc, ◌+◌, ◌<◌, ◌≤◌, Bool, true, false, ◌&&◌, ◌||◌, ◌==◌, cond, if◌then◌else◌, List, [], ◌∷◌, ◌++◌, length, get_or, map, refl, ap, sym, ◌∙◌, subst, arith, Option, None, Some, IsTrue}
+use Rattle.std.proofs.Common.{◌≡◌, ℕ, zero, suc, ◌+◌, ◌<◌, ◌≤◌, Bool, true, false, ◌&&◌, ◌||◌, ◌==◌, cond, List, [], ◌∷◌, ◌++◌, length, get_or, map, refl, ap, sym, ◌∙◌, subst, arith, Option, None, Some}
 use Rattle.std.specs.Prelude.{ℤ, pos, negsuc, ◌+ℤ◌, ◌*ℤ◌, neg_ℤ, unsigned_abs, All}
 use Rattle.std.specs.Option.{option_or}
-use mathlib.Core.Logic.{◌⊎◌, inl, inr}
+use mathlib.Core.Logic.{inl, inr}
 use borrow.Author.Differences.{ints}
-use Rattle.std.proofs.lemmas.Bool.{eqb-true, eq-eqb}
+use Rattle.std.proofs.lemmas.Bool.{eqb-true}
 use Rattle.std.proofs.lemmas.List.Elements.{All-head, All-tail}
 use Rattle.wdf_law.specs.declared.kind.Kind.{Kind}
 use Rattle.wdf_law.specs.declared.kind.Kind.TheVariants.{Res, Cap, Ind, Src}
 use Rattle.wdf_law.specs.Trees.{AdaptorTree, leaf, series, parallel, LeafElement, elements_of}
-use Rattle.wdf_law.specs.Network.{Network, IsNetwork, elements, numbers, times_in, has_kind, has_source, has_reactance, is_source, is_reactance, source_numbers}
+use Rattle.wdf_law.specs.Network.{Network, IsNetwork, elements, times_in, has_kind, has_source, is_source, is_reactance, source_numbers}
 use Rattle.wdf_law.specs.Elements.{signed}
 use Rattle.wdf_law.specs.Run.{entry, source_values}
 use Rattle.wdf_law.specs.Solved.{reflected}
 use Rattle.wdf_sched.specs.Operations.{Slots}
-use Rattle.wdf_sched.specs.Meaning.{Reflects, Starts, slot_at}
+use Rattle.wdf_sched.specs.Meaning.{Reflects, Starts}
 use Rattle.wdf_sched.specs.Schedules.{ScheduleValue}
 use Rattle.wdf_loop.specs.declared.feed.Feed.{Feed}
 use Rattle.wdf_loop.specs.declared.leaf.Leaf.{Leaf}
 use Rattle.wdf_loop.specs.Layouts.{fed_by, feed_at, IsElement}
-use Rattle.wdf_loop.specs.Leaves.{found, sign_of, sign_if, sign_in, flip_if, flip_in}
+use Rattle.wdf_loop.specs.Leaves.{found, sign_if, sign_in, flip_if, flip_in}
 use Rattle.wdf_loop.specs.Marked.{IsListed}
 use Rattle.wdf_loop.proofs.LeafLemmas.{found_either}
 use Rattle.wdf_loop.proofs.SourceLemmas.{sources_are}

@@ -1,5 +1,5 @@
 -- How junctions that are joined by a stack hang together.
-use Rattle.std.proofs.Common.{◌≡◌, ℕ, zero, suc, ◌+◌, ◌<◌, ◌≤◌, List, [], ◌∷◌, ◌++◌, length, get_or, refl, ap, sym, ◌∙◌, subst, arith}
+use Rattle.std.proofs.Common.{◌≡◌, ℕ, zero, suc, ◌<◌, ◌≤◌, List, [], ◌∷◌, ◌++◌, length, get_or, refl, ap, sym, ◌∙◌, subst, arith}
 use mathlib.Core.Logic.{◌⊎◌, inl, inr}
 use Rattle.wdf_sched.specs.Junctions.{Junction, series, Branch, branch, first_part, second_part, own_branch, IsTaken, Join}
 use Rattle.wdf_sched.specs.Meaning.{slot_at}

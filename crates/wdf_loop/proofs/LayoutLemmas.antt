@@ -1,15 +1,15 @@
 -- A row of stages, its chains and its feeds are a layout.
-use Rattle.std.proofs.Common.{◌≡◌, ℕ, zero, suc, ◌+◌, ◌-◌, ◌<◌, ◌≤◌, Bool, true, false, not, ◌&&◌, ◌==◌, List, length, refl, ap, sym, ◌∙◌, subst, arith}
-use Rattle.std.specs.Prelude.{ℤ, pos}
+use Rattle.std.proofs.Common.{◌≡◌, ℕ, zero, suc, ◌+◌, ◌-◌, ◌<◌, ◌≤◌, Bool, true, false, not, ◌==◌, List, length, refl, ap, sym, ◌∙◌, subst, arith}
+use Rattle.std.specs.Prelude.{ℤ}
 use mathlib.Core.Logic.{◌⊎◌, inl, inr}
 use Rattle.std.proofs.lemmas.Bool.{cases_lt, cases_eq, cases_Bool, eqb-true, eq-eqb, ne_eqb, and_parts, and_from, not-true, not_from_false}
-use Rattle.wdf_law.specs.Network.{Network, IsNetwork, elements, source_numbers}
+use Rattle.wdf_law.specs.Network.{IsNetwork, elements, source_numbers}
 use Rattle.wdf_sched.specs.Schedules.{ScheduleValue}
 use Rattle.wdf_loop.specs.declared.chain.Chain.{Chain}
 use Rattle.wdf_loop.specs.declared.feed.Feed.{Feed}
 use Rattle.wdf_loop.specs.declared.mark.Mark.{Mark}
 use Rattle.wdf_loop.specs.declared.share.Share.{Share}
-use Rattle.wdf_loop.specs.Chains.{IsEnd, IsHook, IsChainFrom, AreChainsBefore}
+use Rattle.wdf_loop.specs.Chains.{IsEnd, IsHook, AreChainsBefore}
 use Rattle.wdf_loop.specs.Feeds.{IsFeedOf, AreFeeds, source_at}
 use Rattle.wdf_loop.specs.Layouts.{share_at, mark_at, chain_at, feed_at, fed_by, is_beside, is_under, IsElement, IsRowOfChains, IsLinked, HasChain, IsLayout}
 use Rattle.wdf_loop.specs.Leaves.{sign_in, flip_in}
@@ -96,7 +96,6 @@ hangs s root marks m c e end before hook begins = by (m.taken e before)
 
 module _ (s : ScheduleValue) (root : ℕ) (marks : List Mark) (chains : List Chain) (m : IsMarked s root marks)
     (c : AreChainsBefore s.net marks (length marks) chains) where
-
   -- its last stage, and where it hangs
   hung : (i : ℕ) → i + 1 < length chains → Hangs s root marks (chain_at chains i) ((chain_at chains i).end - 1)
   hung i more =
@@ -247,7 +246,6 @@ same_test t a b there back = by (cases_eq a b)
 
 module _ (s : ScheduleValue) (root : ℕ) (marks : List Mark) (feeds : List Feed) (m : IsMarked s root marks)
     (f : AreFeeds s.net marks (length (source_numbers s.net)) feeds) where
-
   fed_beside : (j : ℕ) → j ≤ root → Matches (is_beside j) (mark_at marks j).up (flip_in s.net (mark_at marks j).up) feeds (source_numbers s.net)
   fed_beside j most =
       matches_each (is_beside j) (mark_at marks j).up (flip_in s.net (mark_at marks j).up) feeds (source_numbers s.net) f.count
@@ -334,8 +332,8 @@ is_layout s shares marks chains feeds net r c f =
           let begins = c.begins i small in
           let most : (chain_at chains i).first ≤ r.root = omega (arith, begins.0, m.count) in
           element s (mark_at marks (chain_at chains i).first).below (mark_at marks (chain_at chains i).first).onward (chain_at chains i).sign
-              (is_under (chain_at chains i).first) feeds net (has_leaf_below s r.root marks m (chain_at chains i).first most begins.1) own.sign
-              (fed_under s r.root marks feeds m f (chain_at chains i).first most);
+          (is_under (chain_at chains i).first) feeds net (has_leaf_below s r.root marks m (chain_at chains i).first most begins.1) own.sign
+          (fed_under s r.root marks feeds m f (chain_at chains i).first most);
       beside = λ j most. either j most (m.beside j most);
       feeds_count = f.count;
       stages = λ i small. let own = f.each i (omega (arith, small, f.count)) in omega (arith, own.within, m.count);

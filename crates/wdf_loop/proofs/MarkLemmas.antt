@@ -1,24 +1,23 @@
 -- What the slots of a schedule's stages say of how these hang together.
-use Rattle.std.proofs.Common.{◌≡◌, ℕ, zero, suc, ◌+◌, ◌-◌, ◌<◌, ◌≤◌, Bool, cond, List, [], ◌∷◌, ◌++◌, length, map, refl, ap, sym, ◌∙◌, subst, arith, length-append}
+use Rattle.std.proofs.Common.{◌≡◌, ℕ, ◌+◌, ◌<◌, ◌≤◌, Bool, cond, List, [], ◌∷◌, ◌++◌, length, refl, ap, sym, ◌∙◌, subst, arith, length-append}
 use Rattle.std.specs.Prelude.{nat_lt}
 use mathlib.Core.Logic.{◌⊎◌, inl, inr}
 use Rattle.std.proofs.lemmas.Bool.{cases_lt, lt-ltb, le-ltb, cond_both}
-use Rattle.std.proofs.lemmas.List.{get_or_append_left, get_or-map, length-map}
-use Rattle.wdf_law.specs.Network.{IsNetwork, elements}
+use Rattle.std.proofs.lemmas.List.{get_or_append_left, get_or-map}
+use Rattle.wdf_law.specs.Network.{elements}
 use Rattle.wdf_sched.specs.declared.op.Op.{Op}
 use Rattle.wdf_sched.specs.declared.op.Op.TheVariants.{UpSeries, UpParallel, Root, DownSeries, DownParallel}
-use Rattle.wdf_sched.specs.Operations.{InOrder, WritesFrom, written_by}
-use Rattle.wdf_sched.specs.Junctions.{Junction, series, parallel, up_op, Branch, branch, first_part, second_part, own_branch}
+use Rattle.wdf_sched.specs.Operations.{InOrder, written_by}
+use Rattle.wdf_sched.specs.Junctions.{Junction, series, parallel, up_op, Branch, first_part, second_part, own_branch}
 use Rattle.wdf_sched.specs.Meaning.{slot_at}
 use Rattle.wdf_sched.specs.Schedules.{ScheduleValue, IsSchedule}
 use Rattle.wdf_loop.specs.declared.mark.Mark.{Mark}
 use Rattle.wdf_loop.specs.declared.stage.Stage.{Stage}
 use Rattle.wdf_loop.specs.Layouts.{mark_at}
-use Rattle.wdf_loop.specs.Marked.{IsListed, IsBehind, IsPartOf, IsMarked}
-use Rattle.wdf_loop.specs.Stages.{ends, mark_by, mark_of, op_at}
-use Rattle.wdf_loop.proofs.JoinLemmas.{junction_at, IsLeafBranch, Takes, takes, takes_first, In, IsPart, own_taken, joined}
+use Rattle.wdf_loop.specs.Stages.{mark_by, mark_of}
+use Rattle.wdf_loop.proofs.JoinLemmas.{junction_at, IsLeafBranch, Takes, IsPart}
 use Rattle.wdf_loop.proofs.OpLemmas.{around, around-length, up_at, root_junction, stage_of, Writes, written_above}
-use Rattle.wdf_loop.proofs.CountLemmas.{marks_of, mark_parts, most_once, some_place, one_up, one_below, not_both}
+use Rattle.wdf_loop.proofs.CountLemmas.{marks_of}
 
 -- ---- the mark of a junction
 

@@ -12,10 +12,10 @@ use Rattle.wdf_loop.specs.declared.mark.Mark.{Mark}
 use Rattle.wdf_loop.specs.Layouts.{mark_at}
 use Rattle.wdf_loop.specs.Marked.{IsListed, IsBehind, IsPartOf, IsMarked}
 use Rattle.wdf_loop.specs.Stages.{mark_of, op_at}
-use Rattle.wdf_loop.proofs.JoinLemmas.{junction_at, IsLeafBranch, takes, takes_first, In, IsPart, own_taken, joined}
+use Rattle.wdf_loop.proofs.JoinLemmas.{junction_at, takes, takes_first, In, IsPart, own_taken, joined}
 use Rattle.wdf_loop.proofs.OpLemmas.{around, around-length, up_at, root_junction, stage_of, Writes, written_once}
-use Rattle.wdf_loop.proofs.CountLemmas.{marks_of, mark_parts, most_once, some_place, one_up, one_below, not_both, owned}
-use Rattle.wdf_loop.proofs.MarkLemmas.{Hangs, hangs_swapped, owns, IsElementAt, element_at, Below, below-takes, part_of, junctions_of, root_op, stage_marks, stages_count, mark_at-stage, room, own_high, own_written}
+use Rattle.wdf_loop.proofs.CountLemmas.{mark_parts, most_once, some_place, one_up, one_below, not_both, owned}
+use Rattle.wdf_loop.proofs.MarkLemmas.{hangs_swapped, owns, IsElementAt, element_at, Below, below-takes, part_of, junctions_of, root_op, stage_marks, stages_count, mark_at-stage, room, own_high, own_written}
 
 abbrev count_of : ScheduleValue → ℕ
 count_of s = length (elements s.net)
@@ -200,8 +200,8 @@ is_marked s sch net =
       once_out = once_out s sch;
       owned = λ j most high.
           let place = owned s.net js sch.joined.m sch.joined.left.up sch.joined.right.up sch.joined.left.down sch.joined.right.down j net
-              (subst (λ (ops : List Op). (i : ℕ) → times_in (part_slots ops) i ≡ times_in (numbers s.net) i + times_in (own_slots ops) i) sch.joined.list sch.parts)
-              (omega (arith, most, long)) high in
+          (subst (λ (ops : List Op). (i : ℕ) → times_in (part_slots ops) i ≡ times_in (numbers s.net) i + times_in (own_slots ops) i) sch.joined.list sch.parts)
+          (omega (arith, most, long)) high in
           (place.0, (place.1.0, own-slot s sch place.0 place.1.0 ∙ place.1.1));
       taken = taken s sch net;
       every = every s sch net;

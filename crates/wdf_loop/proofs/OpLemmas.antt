@@ -7,8 +7,8 @@ use Rattle.std.proofs.lemmas.List.{get_or_append_left, get_or-append-add, get_or
 use Rattle.std.proofs.lemmas.List.FromFn.{fill_by_all}
 use Rattle.wdf_sched.specs.declared.op.Op.{Op}
 use Rattle.wdf_sched.specs.declared.op.Op.TheVariants.{UpSeries, UpParallel, Root, DownSeries, DownParallel}
-use Rattle.wdf_sched.specs.Operations.{Each, InOrder, WritesFrom, written_by, own_slots}
-use Rattle.wdf_sched.specs.Junctions.{Junction, series, parallel, up_op, down_op, Branch, branch, first_part, second_part, own_branch, IsJoined}
+use Rattle.wdf_sched.specs.Operations.{Each, InOrder, WritesFrom, written_by}
+use Rattle.wdf_sched.specs.Junctions.{Junction, series, parallel, up_op, down_op}
 use Rattle.wdf_loop.specs.declared.stage.Stage.{Stage}
 use Rattle.wdf_loop.specs.Stages.{ends, IsPair, stage_by, op_at, stage_at, stages_of}
 use Rattle.wdf_loop.proofs.JoinLemmas.{junction_at}

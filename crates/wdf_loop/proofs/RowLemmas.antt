@@ -1,5 +1,5 @@
 -- The stages that the code makes are a row.
-use Rattle.std.proofs.Common.{◌≡◌, ℕ, zero, suc, ◌+◌, ◌-◌, ◌/◌, ◌<◌, ◌≤◌, List, [], ◌∷◌, ◌++◌, length, get_or, map, refl, ap, sym, ◌∙◌, subst, arith}
+use Rattle.std.proofs.Common.{◌≡◌, ℕ, suc, ◌+◌, ◌-◌, ◌/◌, ◌<◌, ◌≤◌, List, [], ◌∷◌, length, map, refl, ap, sym, ◌∙◌, subst, arith}
 use Rattle.std.specs.Prelude.{ℤ, pos, true, false}
 use Rattle.std.specs.List.{range_with_len}
 use mathlib.Core.Logic.{◌⊎◌, inl, inr}
@@ -7,8 +7,7 @@ use Rattle.std.proofs.lemmas.Bool.{cases_lt, cases_order, cond_both}
 use Rattle.std.proofs.lemmas.List.{get_or_append_left, get_or_at, get_or-map, length-map}
 use Rattle.wdf_law.specs.Network.{IsNetwork, elements, unit_of}
 use Rattle.wdf_sched.specs.declared.op.Op.{Op}
-use Rattle.wdf_sched.specs.declared.op.Op.TheVariants.{UpSeries, UpParallel, Root, DownSeries, DownParallel}
-use Rattle.wdf_sched.specs.Operations.{Slots, Each, Holds, HoldAll, IsWithin, AreWithin, HasShare, InOrder}
+use Rattle.wdf_sched.specs.Operations.{Each, Holds, IsWithin, HasShare, InOrder}
 use Rattle.wdf_sched.specs.Junctions.{Junction, series, parallel, up_op, down_op, first_part, second_part, own_branch}
 use Rattle.wdf_sched.specs.Schedules.{ScheduleValue, IsSchedule}
 use Rattle.wdf_loop.specs.declared.mark.Mark.{Mark}
@@ -21,9 +20,8 @@ use Rattle.wdf_loop.specs.Rows.{IsRow, mark_in, share_in}
 use Rattle.wdf_loop.specs.Stages.{IsPair, is_swapped, op_at, stage_at, stages_of, mark_of, share_of, mark_by, share_by}
 use Rattle.wdf_loop.proofs.JoinLemmas.{junction_at}
 use Rattle.wdf_loop.proofs.OpLemmas.{each_at, around, around-length, up_at, root_at, mirror_at, down_at, root_junction, stage_of, pair_at, stage_at-around, stages-around, Writes, written}
-use Rattle.wdf_loop.proofs.CountLemmas.{marks_of}
 use Rattle.wdf_loop.proofs.MarkLemmas.{hangs_swapped, hangs_straight, junctions_of, root_op, stage_marks, stages_count, mark_at-stage}
-use Rattle.wdf_loop.proofs.MarkedLemmas.{marks-length, is_marked, own-at}
+use Rattle.wdf_loop.proofs.MarkedLemmas.{is_marked, own-at}
 use Rattle.wdf_loop.proofs.StageLemmas.{HasOps, multiplier, junction_stage, root_stage, junction_small, root_small}
 
 abbrev count_of : ScheduleValue → ℕ
@@ -271,11 +269,16 @@ shows_up s sch net i k small w = by (up_writes (junction_at sch.joined.junctions
         let most : k ≤ length sch.joined.junctions = omega (arith, small) in
         let z = stage_of (junction_at sch.joined.junctions k) in
         let share = share_at-stage s sch k most ∙ ap (λ (j : Junction). share_for s (stage_of j)) (at_junction s sch k small) in
-        let mark = mark_at-stage s sch k most ∙ ap (λ (j : Junction). mark_of (count_of s) (stage_of j)) (at_junction s sch k small) in
-        (k, (most, inr (inr (inr (inr (
-          ap (λ (x : Share). x.parallel) share ∙ (share-parallel (unit_of s.net) (count_of s) (sign_in s.net (mark_of (count_of s) z).up) z ∙ e.0),
-          ap (λ (x : Mark). x.raw) mark ∙ (mark-raw (count_of s) z ∙ e.1),
-        ))))))
+        let mark = mark_at-stage s sch k most ∙ ap (λ (j : Junction). mark_of (count_of s) (stage_of j)) (at_junction s sch k small) in (
+          k,
+          (
+            most,
+            inr (inr (inr (inr (
+              ap (λ (x : Share). x.parallel) share ∙ (share-parallel (unit_of s.net) (count_of s) (sign_in s.net (mark_of (count_of s) z).up) z ∙ e.0),
+              ap (λ (x : Mark). x.raw) mark ∙ (mark-raw (count_of s) z ∙ e.1),
+            )))),
+          ),
+        )
 
 shows_root : (s : ScheduleValue) (sch : IsSchedule s) (i : ℕ) → Writes (root_op s sch) i → IsShown s sch i
 shows_root s sch i w =
@@ -321,7 +324,7 @@ shown s sch net i small = by (cases_lt i (count_of s))
     by (inl h) = let marked = is_marked s sch net in let place = marked.every i h in shows_part s sch i place.0 place.1.0 place.1.1
     by (inr h) =
         let place = written (around sch.joined.junctions (root_op s sch)) (count_of s) s.slot_count i
-            (subst (λ (ops : List Op). InOrder (count_of s) ops s.slot_count) sch.joined.list sch.order) h small in
+        (subst (λ (ops : List Op). InOrder (count_of s) ops s.slot_count) sch.joined.list sch.order) h small in
         at place.0 place.1.0 place.1.1
 
 -- ---- all of it

@@ -1,9 +1,7 @@
 -- The numbers of the sources.
-use Rattle.std.proofs.Common.{◌≡◌, ℕ, zero, suc, ◌+◌, ◌<◌, ◌≤◌, Bool, true, false, cond, List, [], ◌∷◌, length, get_or, refl, ap, sym, ◌∙◌, subst, arith}
-use Rattle.std.specs.Prelude.{All, slice_index_or}
+use Rattle.std.proofs.Common.{◌≡◌, ℕ, zero, suc, ◌+◌, ◌<◌, ◌≤◌, Bool, true, false, cond, ◌∷◌, length, get_or, sym, subst, arith}
+use Rattle.std.specs.Prelude.{All}
 use Rattle.std.specs.List.{range_with_len, filter}
-use mathlib.Core.Logic.{◌⊎◌, inl, inr}
-use Rattle.std.proofs.lemmas.Bool.{cases_order}
 use Rattle.std.proofs.lemmas.List.Elements.{All-filter, All-get_or, filter_passes}
 use Rattle.std.proofs.lemmas.List.FromFn.{get_or-range_with_len, length-range_with_len}
 use Rattle.wdf_law.specs.Network.{Network, elements, has_source, source_numbers}
@@ -19,7 +17,7 @@ all_from a n k d h =
 pub source_below : (n : Network) (i : ℕ) → i < length (source_numbers n) → source_at n i < length (elements n)
 source_below n i small =
     let inside = All-get_or (λ (k : ℕ). (0 ≤ k) × (k < 0 + length (elements n))) (source_numbers n) i 0 small
-        (All-filter (has_source (elements n)) (λ (k : ℕ). (0 ≤ k) × (k < 0 + length (elements n))) (range_with_len 0 (length (elements n))) (all_from 0 (length (elements n)))) in
+    (All-filter (has_source (elements n)) (λ (k : ℕ). (0 ≤ k) × (k < 0 + length (elements n))) (range_with_len 0 (length (elements n))) (all_from 0 (length (elements n)))) in
     omega (arith, inside.1)
 
 -- each is that of a source
@@ -39,7 +37,7 @@ rising p a (suc n) i k less small = by (p a) i k less small (λ i k. rising p (a
     by true i zero less small rest = absurd (omega (arith, less))
     by true zero (suc k) less small rest =
         let inside = All-get_or (λ (v : ℕ). (a + 1 ≤ v) × (v < a + 1 + n)) (filter p (range_with_len (a + 1) n)) k 0 (omega (arith, small))
-            (All-filter p (λ (v : ℕ). (a + 1 ≤ v) × (v < a + 1 + n)) (range_with_len (a + 1) n) (all_from (a + 1) n)) in
+        (All-filter p (λ (v : ℕ). (a + 1 ≤ v) × (v < a + 1 + n)) (range_with_len (a + 1) n) (all_from (a + 1) n)) in
         omega (arith, inside.0)
     by true (suc i) (suc k) less small rest = rest i k (omega (arith, less)) (omega (arith, small))
 

@@ -1,5 +1,5 @@
 -- What a schedule's operations say of its stages, whichever part hangs beside.
-use Rattle.std.proofs.Common.{◌≡◌, ℕ, ◌+◌, ◌-◌, ◌*◌, ◌<◌, ◌≤◌, Bool, true, false, cond, List, refl, ap, ◌∙◌, arith}
+use Rattle.std.proofs.Common.{◌≡◌, ℕ, ◌-◌, ◌<◌, Bool, true, false, cond, List, ap, ◌∙◌, arith}
 use Rattle.std.specs.Prelude.{ℤ, pos, ◌+ℤ◌, ◌-ℤ◌, ◌*ℤ◌, nat_lt}
 use borrow.Author.Differences.{ints}
 use Rattle.wdf_algebra.specs.Truncation.{trunc}
@@ -9,9 +9,8 @@ use Rattle.wdf_sched.specs.Operations.{Slots, HoldAll, Holds, AreWithin, IsWithi
 use Rattle.wdf_sched.specs.Junctions.{Junction, series, parallel, up_op, down_op}
 use Rattle.wdf_loop.specs.declared.mark.Mark.{Mark}
 use Rattle.wdf_loop.specs.declared.share.Share.{Share}
-use Rattle.wdf_loop.specs.declared.stage.Stage.{Stage}
-use Rattle.wdf_loop.specs.Layouts.{IsSeriesStage, IsParallelStage, IsJunctionStage, IsRootStage, IsSmallStage}
-use Rattle.wdf_loop.specs.Stages.{ends, mark_by, mark_of, share_by, share_of}
+use Rattle.wdf_loop.specs.Layouts.{IsJunctionStage, IsRootStage, IsSmallStage}
+use Rattle.wdf_loop.specs.Stages.{mark_of, share_of}
 use Rattle.wdf_loop.proofs.OpLemmas.{stage_of, root_junction}
 
 exchanged : (a b : ℤ) → a +ℤ b ≡ b +ℤ a

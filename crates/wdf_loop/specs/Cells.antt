@@ -20,14 +20,20 @@ risen_parallel s w c = record { fed = c.fed; up = reflects s c; below = w; raw =
 -- on the way down, the junction being sent d
 abbrev pub fallen_series : ℕ → Share → ℤ → Cell → Cell
 fallen_series q s d c = record {
-  fed = c.fed; up = c.up; below = c.below; raw = c.raw;
+  fed = c.fed;
+  up = c.up;
+  below = c.below;
+  raw = c.raw;
   down = trunc (series_part q s.m c.up c.below d c.up) q;
   onward = trunc (series_part q s.n c.up c.below d c.below) q;
 }
 
 abbrev pub fallen_parallel : ℕ → ℤ → Cell → Cell
 fallen_parallel q d c = record {
-  fed = c.fed; up = c.up; below = c.below; raw = c.raw;
+  fed = c.fed;
+  up = c.up;
+  below = c.below;
+  raw = c.raw;
   down = trunc (pos q *ℤ d +ℤ c.raw -ℤ pos q *ℤ c.up) q;
   onward = trunc (pos q *ℤ d +ℤ c.raw -ℤ pos q *ℤ c.below) q;
 }
@@ -35,7 +41,10 @@ fallen_parallel q d c = record {
 -- at the root, which sends both parts their waves at once
 abbrev pub turned : ℕ → Share → ℤ → Cell → Cell
 turned q s w c = record {
-  fed = c.fed; up = reflects s c; below = w; raw = c.raw;
+  fed = c.fed;
+  up = reflects s c;
+  below = w;
+  raw = c.raw;
   down = trunc (root_value q s.m s.n (reflects s c) w (reflects s c)) q;
   onward = trunc (root_value q s.m s.n (reflects s c) w w) q;
 }

@@ -139,10 +139,10 @@ pub record IsLayout (s : ScheduleValue) (shares : List Share) (marks : List Mark
   -- the elements, at the bottoms of the chains and beside stages
   pub bottoms : (i : ℕ) → i < length chains
       → IsElement s (mark_at marks (chain_at chains i).first).below (mark_at marks (chain_at chains i).first).onward (chain_at chains i).sign
-          (fed_by (is_under (chain_at chains i).first) feeds)
+      (fed_by (is_under (chain_at chains i).first) feeds)
   pub beside : (j : ℕ) → j ≤ root
       → IsElement s (mark_at marks j).up (mark_at marks j).down (share_at shares j).sign (fed_by (is_beside j) feeds)
-          ⊎ HasChain chains j (share_at shares j).sign
+      ⊎ HasChain chains j (share_at shares j).sign
   -- the feeds, source 0 first, no two of which have one place
   pub feeds_count : length feeds ≡ length (source_numbers s.net)
   pub stages : (i : ℕ) → i < length feeds → (feed_at feeds i).stage ≤ root

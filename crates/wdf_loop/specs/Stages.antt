@@ -44,8 +44,13 @@ is_swapped count s = nat_lt s.second.up count
 
 abbrev pub mark_by : Stage → Ends → Ends → Mark
 mark_by s beside below = record {
-  up = beside.up; down = beside.down; below = below.up; onward = below.down;
-  raw = s.raw; out = s.own.up; sent = s.own.down;
+  up = beside.up;
+  down = beside.down;
+  below = below.up;
+  onward = below.down;
+  raw = s.raw;
+  out = s.own.up;
+  sent = s.own.down;
 }
 
 abbrev pub mark_of : ℕ → Stage → Mark

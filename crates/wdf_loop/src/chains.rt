@@ -72,11 +72,7 @@ fn chain_from(net: &Net, marks: &[Mark], first: usize) -> Chain
 /// # Errors
 ///
 /// Where no memory is left.
-pub(crate) fn chains_of(
-    alloc: Global,
-    net: &Net,
-    marks: &[Mark],
-) -> Result<Vec<Chain>, AllocError>
+pub(crate) fn chains_of(alloc: Global, net: &Net, marks: &[Mark]) -> Result<Vec<Chain>, AllocError>
     requires few { length marks.now ≤ 1024 }
     requires first { (mark_at marks.now 0).below < length (elements net.now) }
     ensures { IfOk result (λ v. AreChainsBefore net.now marks.now (length marks.now) v.items) }

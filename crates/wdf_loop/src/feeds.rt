@@ -54,16 +54,10 @@ fn source_number(net: &Net, i: usize) -> u32
 /// # Errors
 ///
 /// Where no memory is left.
-pub(crate) fn feeds_of(
-    alloc: Global,
-    net: &Net,
-    marks: &[Mark],
-) -> Result<Vec<Feed>, AllocError>
+pub(crate) fn feeds_of(alloc: Global, net: &Net, marks: &[Mark]) -> Result<Vec<Feed>, AllocError>
     requires few { length marks.now ≤ 1024 }
-    requires every {
-        (k : ℕ) → k < length (elements net.now)
-            → (j : ℕ) × ((j < length marks.now) × (((mark_at marks.now j).up ≡ k) ⊎ ((mark_at marks.now j).below ≡ k)))
-    }
+    requires every { (k : ℕ) → k < length (elements net.now)
+        → (j : ℕ) × ((j < length marks.now) × (((mark_at marks.now j).up ≡ k) ⊎ ((mark_at marks.now j).below ≡ k))) }
     ensures { IfOk result (λ v. AreFeeds net.now marks.now (length (source_numbers net.now)) v.items) }
 {
     let mut feeds = Vec::new(alloc);

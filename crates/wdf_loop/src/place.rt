@@ -38,11 +38,9 @@ fn field_of(share: Share, mark: Mark, slot: u16) -> Option<Field>
 /// Where the value of the slot stands, if a stage shows it.
 pub(crate) fn place_of(shares: &[Share], marks: &[Mark], slot: u16) -> Option<Place>
     requires { length shares.now ≡ length marks.now }
-    ensures {
-        MatchOption result
-            ((j : ℕ) → j < length marks.now → ShowsSlot (share_at shares.now j) (mark_at marks.now j) slot → ⊥)
-            (λ place. (place.stage < length marks.now) × Holds place.field (share_at shares.now place.stage) (mark_at marks.now place.stage) slot)
-    }
+    ensures { MatchOption result
+        ((j : ℕ) → j < length marks.now → ShowsSlot (share_at shares.now j) (mark_at marks.now j) slot → ⊥)
+        (λ place. (place.stage < length marks.now) × Holds place.field (share_at shares.now place.stage) (mark_at marks.now place.stage) slot) }
 {
     for stage in 0..marks.len() {
         if let Some(field) = field_of(shares[stage], marks[stage], slot) {

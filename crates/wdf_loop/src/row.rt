@@ -83,11 +83,9 @@ fn shares(alloc: Global, schedule: &Schedule) -> Result<Vec<Share>, AllocError>
 
 // Stages that are made so hang together.
 fn made(schedule: &Schedule)
-    ensures {
-        IsRow schedule.now
-            (map (share_in schedule.now) (range_with_len 0 (length schedule.now.ops / 2 + 1)))
-            (map (mark_in schedule.now) (range_with_len 0 (length schedule.now.ops / 2 + 1)))
-    }
+    ensures { IsRow schedule.now
+        (map (share_in schedule.now) (range_with_len 0 (length schedule.now.ops / 2 + 1)))
+        (map (mark_in schedule.now) (range_with_len 0 (length schedule.now.ops / 2 + 1))) }
 {
     schedule.rules();
     schedule.net().rules();

@@ -1,4 +1,4 @@
-use Rattle.std.proofs.Common.{◌≡◌, rules, arith}
+use Rattle.std.proofs.Common.{◌≡◌, arith}
 use Rattle.std.proofs.lemmas.Grind.{common_steps}
 use Rattle.wdf_loop.specs.Feeds.{source_at}
 use Rattle.wdf_loop.proofs.SourceLemmas.{source_below}

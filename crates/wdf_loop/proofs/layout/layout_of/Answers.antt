@@ -1,4 +1,4 @@
-use Rattle.std.proofs.Common.{◌≡◌, ℕ, ◌<◌, List, length, sym, ◌∙◌, subst, arith}
+use Rattle.std.proofs.Common.{◌≡◌, ℕ, ◌<◌, List, length, sym, subst, arith}
 use mathlib.Core.Logic.{◌⊎◌}
 use Rattle.wdf_law.specs.Network.{Network, IsNetwork, elements, source_numbers}
 use Rattle.wdf_loop.specs.declared.mark.Mark.{Mark}

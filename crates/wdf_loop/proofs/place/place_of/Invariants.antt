@@ -1,4 +1,4 @@
-use Rattle.std.proofs.Common.{◌≡◌, ℕ, ◌<◌}
+use Rattle.std.proofs.Common.{ℕ, ◌<◌}
 use Rattle.wdf_loop.specs.Layouts.{mark_at, share_at, ShowsSlot}
 use Rattle.wdf_loop.proofs.place.place_of.Given as goal
 

@@ -1,4 +1,4 @@
-use Rattle.std.proofs.Common.{◌-◌, List, length, sym, subst, rules}
+use Rattle.std.proofs.Common.{◌-◌, List, length, sym, subst}
 use Rattle.wdf_sched.specs.declared.op.Op.{Op}
 use Rattle.wdf_loop.specs.Stages.{IsPair, op_at}
 use Rattle.wdf_loop.proofs.RowLemmas.{paired}
