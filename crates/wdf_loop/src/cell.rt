@@ -1,10 +1,10 @@
 ghost use Rattle.std.specs.Prelude.{◌≡◌, ◌+◌, ◌*◌, ◌<◌, ◌≤◌, ◌^◌, pos, ◌+ℤ◌, ◌-ℤ◌, ◌*ℤ◌, unsigned_abs};
 ghost use Rattle.wdf_algebra.specs.JunctionValues.{parallel_value};
 ghost use Rattle.wdf_algebra.specs.Truncation.{trunc};
-ghost use Rattle.wdf_loop.specs.Cells.{CanFall, CanRise, IsWord, fallen_parallel, fallen_series, reflects, risen_parallel, risen_series, turned};
+ghost use Rattle.wdf_loop.specs.Cells.{AreWords, CanBegin, CanFall, CanRise, IsWord, bottom, fallen, fallen_parallel, fallen_series, reflects, risen, risen_parallel, risen_series, turned, wave_up};
 
 use crate::share::Share;
-use crate::sums::{minus, plus, weighed};
+use crate::sums::{minus, plus, reflected, weighed};
 use wdf_algebra::{Rounded, parallel_part, root_part, series_first, series_second, times};
 
 /// The numbers of a junction in one run, those of its last frame; all but `raw` are waves. One part
@@ -13,6 +13,8 @@ use wdf_algebra::{Rounded, parallel_part, root_part, series_first, series_second
 pub(crate) struct Cell {
     /// What the part beside reflects besides its own state: a source's value, or a tree's wave.
     pub(crate) fed: i64,
+    /// What the tree below reflects besides its own state, where it is an element: a source's value.
+    pub(crate) under: i64,
     /// What the part beside reflects.
     pub(crate) up: i64,
     /// What the tree below reflects.
@@ -30,32 +32,42 @@ impl Cell {
     fn reflected<const K: u32>(&self, share: Share) -> i64
         requires few { K ≤ 20 }
         requires sign { unsigned_abs share.sign ≤ 1 }
-        requires fed { IsWord (2 ^ K) self.now.fed }
+        requires fed { unsigned_abs self.now.fed ≤ 2 ^ 61 }
         requires down { IsWord (2 ^ K) self.now.down }
         ensures { result ≡ reflects share self.now }
     {
-        times(share.sign, self.down) + self.fed
+        reflected::<K>(share.sign, self.down, self.fed)
     }
 
-    /// A series junction on the way up, the tree below reflecting `wave`: the wave that it reflects.
-    pub(crate) fn rise_series<const K: u32>(&mut self, share: Share, wave: i64) -> i64
+    /// What the element below reflects, whose kind's sign is this.
+    pub(crate) fn bottom<const K: u32>(&self, sign: i64) -> i64
+        requires few { K ≤ 20 }
+        requires sign { unsigned_abs sign ≤ 1 }
+        requires can { CanBegin (2 ^ K) self.now }
+        ensures { result ≡ bottom sign self.now }
+    {
+        reflected::<K>(sign, self.onward, self.under)
+    }
+
+    // A series junction on the way up.
+    fn rise_series<const K: u32>(&mut self, share: Share, wave: i64) -> i64
         requires few { K ≤ 20 }
         requires can { CanRise (2 ^ K) share wave self.old }
         ensures cell { self.new ≡ risen_series share wave self.old }
-        ensures wave { result ≡ reflects share self.old +ℤ wave }
+        ensures wave { result ≡ self.new.up +ℤ self.new.below }
     {
         self.up = self.reflected::<K>(share);
         self.below = wave;
         plus(self.up, wave)
     }
 
-    /// A parallel junction on the way up.
-    pub(crate) fn rise_parallel<const K: u32>(&mut self, share: Share, wave: i64) -> i64
+    // A parallel junction on the way up.
+    fn rise_parallel<const K: u32>(&mut self, share: Share, wave: i64) -> i64
         requires few { K ≤ 20 }
         requires whole { share.m + share.n ≡ 2 ^ K }
         requires can { CanRise (2 ^ K) share wave self.old }
         ensures cell { self.new ≡ risen_parallel share wave self.old }
-        ensures wave { result ≡ trunc (parallel_value share.m share.n (reflects share self.old) wave) (2 ^ K) }
+        ensures wave { result ≡ trunc self.new.raw (2 ^ K) }
     {
         self.up = self.reflected::<K>(share);
         self.below = wave;
@@ -63,11 +75,27 @@ impl Cell {
         Rounded::by_power::<K>(self.raw).truncated()
     }
 
-    /// A series junction on the way down, which is sent `wave`: the wave that the tree below is sent.
-    pub(crate) fn fall_series<const K: u32>(&mut self, share: Share, wave: i64) -> i64
+    /// A junction on the way up, the tree below reflecting `wave`: the wave that it reflects.
+    pub(crate) fn rise<const K: u32>(&mut self, share: Share, wave: i64) -> i64
         requires few { K ≤ 20 }
         requires whole { share.m + share.n ≡ 2 ^ K }
-        requires can { CanFall (2 ^ K) wave self.old }
+        requires can { CanRise (2 ^ K) share wave self.old }
+        ensures cell { self.new ≡ risen share wave self.old }
+        ensures wave { result ≡ wave_up (2 ^ K) share self.new }
+    {
+        if share.parallel {
+            self.rise_parallel::<K>(share, wave)
+        } else {
+            self.rise_series::<K>(share, wave)
+        }
+    }
+
+    // A series junction on the way down.
+    fn fall_series<const K: u32>(&mut self, share: Share, wave: i64) -> i64
+        requires some { 1 ≤ K }
+        requires few { K ≤ 20 }
+        requires whole { share.m + share.n ≡ 2 ^ K }
+        requires words { AreWords (2 ^ K) wave self.old }
         ensures cell { self.new ≡ fallen_series (2 ^ K) share wave self.old }
         ensures wave { result ≡ self.new.onward }
     {
@@ -78,10 +106,11 @@ impl Cell {
         self.onward
     }
 
-    /// A parallel junction on the way down.
-    pub(crate) fn fall_parallel<const K: u32>(&mut self, wave: i64) -> i64
+    // A parallel junction on the way down.
+    fn fall_parallel<const K: u32>(&mut self, wave: i64) -> i64
         requires few { K ≤ 20 }
-        requires can { CanFall (2 ^ K) wave self.old }
+        requires words { AreWords (2 ^ K) wave self.old }
+        requires raw { unsigned_abs self.old.raw ≤ 2 ^ 61 }
         ensures cell { self.new ≡ fallen_parallel (2 ^ K) wave self.old }
         ensures wave { result ≡ self.new.onward }
     {
@@ -89,6 +118,22 @@ impl Cell {
         self.down = parallel_part(sum, wave, self.up);
         self.onward = parallel_part(sum, wave, self.below);
         self.onward
+    }
+
+    /// A junction on the way down, which is sent `wave`: the wave that the tree below is sent.
+    pub(crate) fn fall<const K: u32>(&mut self, share: Share, wave: i64) -> i64
+        requires some { 1 ≤ K }
+        requires few { K ≤ 20 }
+        requires whole { share.m + share.n ≡ 2 ^ K }
+        requires can { CanFall (2 ^ K) share wave self.old }
+        ensures cell { self.new ≡ fallen (2 ^ K) share wave self.old }
+        ensures wave { result ≡ self.new.onward }
+    {
+        if share.parallel {
+            self.fall_parallel::<K>(wave)
+        } else {
+            self.fall_series::<K>(share, wave)
+        }
     }
 
     /// The root, with the tree below reflecting `wave`: the wave that this tree is sent.

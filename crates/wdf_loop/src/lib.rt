@@ -2,19 +2,24 @@
 //! that an output sample holds, and whether that limited it.
 #![tactic(auto)]
 
+mod ascent;
 mod cell;
 mod chain;
 mod chains;
+mod descent;
 mod ends;
 mod feed;
 mod feeds;
 mod field;
+mod frame;
 mod layout;
 mod leaf;
 mod limited;
 mod mark;
+mod passes;
 mod place;
 mod row;
+mod runs;
 mod share;
 mod stage;
 mod sums;

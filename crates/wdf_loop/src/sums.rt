@@ -20,6 +20,17 @@ pub(crate) fn minus(a: i64, b: i64) -> i64
     a - b
 }
 
+/// What an element reflects whose last down wave is `state`, and which is fed `fed`.
+pub(crate) fn reflected<const K: u32>(sign: i64, state: i64, fed: i64) -> i64
+    requires few { K ≤ 20 }
+    requires sign { unsigned_abs sign ≤ 1 }
+    requires state { IsWord (2 ^ K) state }
+    requires fed { unsigned_abs fed ≤ 2 ^ 61 }
+    ensures { result ≡ sign *ℤ state +ℤ fed }
+{
+    plus(times(sign, state), fed)
+}
+
 /// m·z, where m is at most q.
 #[tactic(auto, using(crate::proofs::Sizes::share))]
 pub(crate) fn weighed<const K: u32>(m: u32, z: i64) -> i64

@@ -1,0 +1,86 @@
+// A stage of several runs at once: a cell and a wave for each.
+ghost use Rattle.std.specs.Prelude.{◌≡◌, ℕ, ◌+◌, ◌<◌, ◌≤◌, ◌^◌, unsigned_abs};
+ghost use Rattle.wdf_loop.specs.Cells.{bottom, fed_with};
+ghost use Rattle.wdf_loop.specs.RunCells.{AllCanBegin, AllCanFall, AllCanRise, Falls, InEach, Rises, Turns, cell_in, wave_in};
+
+use crate::cell::Cell;
+use crate::share::Share;
+
+/// A junction on the way up, the trees below reflecting `waves`, which become what it reflects.
+pub(crate) fn rise<const K: u32, const C: usize>(
+    row: &mut [Cell; C],
+    share: Share,
+    waves: &mut [i64; C],
+)
+    requires few { K ≤ 20 }
+    requires whole { share.m + share.n ≡ 2 ^ K }
+    requires can { AllCanRise (2 ^ K) C share waves.old row.old }
+    ensures { InEach C (Rises (2 ^ K) share) waves.old row.old row.new waves.new }
+{
+    for c in 0..C {
+        waves[c] = row[c].rise::<K>(share, waves[c]);
+    }
+}
+
+/// The root, the trees below reflecting `waves`, which become what these are sent.
+pub(crate) fn turn<const K: u32, const C: usize>(
+    row: &mut [Cell; C],
+    share: Share,
+    waves: &mut [i64; C],
+)
+    requires few { K ≤ 20 }
+    requires whole { share.m + share.n ≡ 2 ^ K }
+    requires can { AllCanRise (2 ^ K) C share waves.old row.old }
+    ensures { InEach C (Turns (2 ^ K) share) waves.old row.old row.new waves.new }
+{
+    for c in 0..C {
+        waves[c] = row[c].turn::<K>(share, waves[c]);
+    }
+}
+
+/// A junction on the way down, which is sent `waves`; they become what the trees below are sent.
+pub(crate) fn fall<const K: u32, const C: usize>(
+    row: &mut [Cell; C],
+    share: Share,
+    waves: &mut [i64; C],
+)
+    requires some { 1 ≤ K }
+    requires few { K ≤ 20 }
+    requires whole { share.m + share.n ≡ 2 ^ K }
+    requires can { AllCanFall (2 ^ K) C share waves.old row.old }
+    ensures { InEach C (Falls (2 ^ K) share) waves.old row.old row.new waves.new }
+{
+    for c in 0..C {
+        waves[c] = row[c].fall::<K>(share, waves[c]);
+    }
+}
+
+/// What the elements below the row's stage reflect, whose kind's sign is this.
+pub(crate) fn bottom<const K: u32, const C: usize>(row: &[Cell; C], sign: i64, waves: &mut [i64; C])
+    requires few { K ≤ 20 }
+    requires sign { unsigned_abs sign ≤ 1 }
+    requires can { AllCanBegin (2 ^ K) C row.now }
+    ensures { (c : ℕ) → c < C → wave_in waves.new c ≡ bottom sign (cell_in row.now c) }
+{
+    for c in 0..C {
+        waves[c] = row[c].bottom::<K>(sign);
+    }
+}
+
+/// Feeds the parts beside the row's stage with `waves`.
+pub(crate) fn deliver<const C: usize>(row: &mut [Cell; C], waves: &[i64; C])
+    ensures { (c : ℕ) → c < C → cell_in row.new c ≡ fed_with (wave_in waves.now c) (cell_in row.old c) }
+{
+    for c in 0..C {
+        row[c].fed = waves[c];
+    }
+}
+
+/// What these parts are sent.
+pub(crate) fn collect<const C: usize>(row: &[Cell; C], waves: &mut [i64; C])
+    ensures { (c : ℕ) → c < C → wave_in waves.new c ≡ (cell_in row.now c).down }
+{
+    for c in 0..C {
+        waves[c] = row[c].down;
+    }
+}
