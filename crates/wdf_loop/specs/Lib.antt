@@ -1,11 +1,17 @@
 pub mod Blocks
 pub mod Cells
+pub mod Chains
+pub mod Feeds
 pub mod Frames
 pub mod Layouts
+pub mod Leaves
 pub mod Limiting
+pub mod Marked
 pub mod NextFrames
 pub mod Places
+pub mod Rows
 pub mod RunCells
 pub mod Runs
 pub mod Shows
+pub mod Stages
 pub mod Steps

@@ -35,8 +35,8 @@ fn field_of(share: Share, mark: Mark, slot: u16) -> Option<Field>
     None
 }
 
-/// Where the value of the slot stands, if a stage shows it.
-pub(crate) fn place_of(shares: &[Share], marks: &[Mark], slot: u16) -> Option<Place>
+// Where the value of the slot stands, if a stage shows it.
+fn place_of(shares: &[Share], marks: &[Mark], slot: u16) -> Option<Place>
     requires { length shares.now ≡ length marks.now }
     ensures { MatchOption result
         ((j : ℕ) → j < length marks.now → ShowsSlot (share_at shares.now j) (mark_at marks.now j) slot → ⊥)
@@ -48,4 +48,17 @@ pub(crate) fn place_of(shares: &[Share], marks: &[Mark], slot: u16) -> Option<Pl
         }
     }
     None
+}
+
+/// Where the value of the slot stands, which some stage shows.
+pub(crate) fn place_shown(shares: &[Share], marks: &[Mark], slot: u16) -> Place
+    requires each { length shares.now ≡ length marks.now }
+    requires shown { (j : ℕ) × ((j < length marks.now) × ShowsSlot (share_at shares.now j) (mark_at marks.now j) slot) }
+    ensures within { result.stage < length marks.now }
+    ensures value { Holds result.field (share_at shares.now result.stage) (mark_at marks.now result.stage) slot }
+{
+    match place_of(shares, marks, slot) {
+        Some(place) => place,
+        None => unreachable!(),
+    }
 }
