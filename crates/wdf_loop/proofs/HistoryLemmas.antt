@@ -34,7 +34,7 @@ use Rattle.wdf_loop.proofs.NextLemmas.{next_at, stands_at}
 below_limit : (q limit : ℕ) (z : ℤ) → 0 < q → q * limit ≤ 2 ^ 60 → unsigned_abs z ≤ limit → unsigned_abs z ≤ 2 ^ 60
 below_limit q limit z some few h = let least : 1 * limit ≤ q * limit = mul-le-mul some (omega arith) in omega arith
 
-field-small : (s : ScheduleValue) (shares : List Share) (marks : List Mark) (chains : List Chain) (feeds : List Feed) (limit : ℕ) (g : Slots) → (lay : IsLayout s shares marks chains feeds)
+pub field-small : (s : ScheduleValue) (shares : List Share) (marks : List Mark) (chains : List Chain) (feeds : List Feed) (limit : ℕ) (g : Slots) → (lay : IsLayout s shares marks chains feeds)
     → unit_of s.net * limit ≤ 2 ^ 60 → AreWithin (unit_of s.net) limit g s.ops → (j : ℕ) (field : Field) → IsField lay.root shares j field → unsigned_abs (g (slot_of field (mark_at marks j))) ≤ 2 ^ 60
 field-small s shares marks chains feeds limit g lay few within j Up h = below_limit (unit_of s.net) limit (g (mark_at marks j).up) (pow_pos s.net.k) few ((lay.small j h).waves limit g within).0
 field-small s shares marks chains feeds limit g lay few within j Below h = below_limit (unit_of s.net) limit (g (mark_at marks j).below) (pow_pos s.net.k) few ((lay.small j h).waves limit g within).1
@@ -44,7 +44,7 @@ field-small s shares marks chains feeds limit g lay few within j Raw h =
     let most = ((((lay.junctions j h.0).1 h.1).sent limit g within).1) in omega arith
 
 -- the run c, done frames of which are done, over a block
-pub can_run : (q root : ℕ) (s : ScheduleValue) (plan : PlanOf) (done : ℕ) (shares : List Share) (marks : List Mark) (chains : List Chain) (feeds : List Feed) (outlet : Outlet) (count : ℕ)
+unfoldable pub can_run : (q root : ℕ) (s : ScheduleValue) (plan : PlanOf) (done : ℕ) (shares : List Share) (marks : List Mark) (chains : List Chain) (feeds : List Feed) (outlet : Outlet) (count : ℕ)
     (old : List ℤ) (before : Slots) (cells : List (List Cell)) (rows : List (List ℤ)) (c : ℕ)
     → (lay : IsLayout s shares marks chains feeds) → lay.root ≡ root → unit_of s.net ≡ q → unit_of s.net * word_limit plan ≤ 2 ^ 60 → IsField lay.root shares outlet.stage outlet.field
     → IsSchedule s → (values : HasValues s) → HasNumbers s.net → HasOneStep s.net → HoldsWords s.net plan

@@ -1,3 +1,4 @@
+pub mod Advances
 pub mod Blocks
 pub mod Cells
 pub mod Chains

@@ -2,6 +2,7 @@
 //! that an output sample holds, and whether that limited it.
 #![tactic(auto)]
 
+mod advance;
 mod ascent;
 mod block;
 mod cell;
@@ -24,8 +25,8 @@ mod place;
 mod row;
 mod runs;
 mod share;
-mod step;
 mod stage;
+mod step;
 mod sums;
 #[cfg(test)]
 mod tests;
