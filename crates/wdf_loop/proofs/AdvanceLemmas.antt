@@ -1,9 +1,8 @@
 -- Runs that go on by a block: what the block wants, and what it leaves.
-use Rattle.std.proofs.Common.{◌≡◌, ℕ, ◌+◌, ◌-◌, ◌*◌, ◌<◌, ◌≤◌, ◌^◌, List, length, refl, ap, sym, ◌∙◌, subst, arith}
+use Rattle.std.proofs.Common.{◌≡◌, ℕ, ◌+◌, ◌-◌, ◌*◌, ◌<◌, ◌≤◌, ◌^◌, List, length, refl, sym, ◌∙◌, subst, arith}
 use Rattle.std.specs.Prelude.{ℤ}
 use Rattle.wdf_law.specs.Laws.{HasOneStep}
 use Rattle.wdf_law.specs.Network.{unit_of}
-use Rattle.wdf_law.specs.Run.{source_values}
 use Rattle.wdf_law.specs.TreeRules.{HasNumbers}
 use Rattle.wdf_bounds.specs.HeldWords.{HoldsWords}
 use Rattle.wdf_bounds.specs.Plans.{PlanOf}

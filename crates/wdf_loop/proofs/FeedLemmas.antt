@@ -1,5 +1,5 @@
 -- One feed more, and what the feeds leave.
-use Rattle.std.proofs.Common.{◌≡◌, ℕ, zero, suc, ◌+◌, ◌-◌, ◌<◌, ◌≤◌, Bool, true, false, not, ◌&&◌, ◌==◌, if◌then◌else◌, List, [], ◌∷◌, length, map, drop, get_or, refl, ap, sym, ◌∙◌, subst, arith}
+use Rattle.std.proofs.Common.{◌≡◌, ℕ, zero, suc, ◌+◌, ◌<◌, ◌≤◌, Bool, true, false, not, ◌&&◌, ◌==◌, if◌then◌else◌, List, [], ◌∷◌, length, drop, refl, ap, sym, ◌∙◌, subst, arith}
 use Rattle.std.specs.Prelude.{ℤ, pos, slice_set, slice_index_or}
 use Rattle.std.proofs.lemmas.Bool.{cases_lt, eq-eqb, ne_eqb}
 use mathlib.Core.Logic.{◌⊎◌, inl, inr}
@@ -10,7 +10,7 @@ use Rattle.wdf_loop.specs.declared.feed.Feed.{Feed}
 use Rattle.wdf_loop.specs.Cells.{fed_with, given, under_with}
 use Rattle.wdf_loop.specs.Layouts.{fed_by, feed_at, is_beside, is_under}
 use Rattle.wdf_loop.specs.RunCells.{cell_in, wave_in}
-use Rattle.wdf_loop.specs.Runs.{cell_at, row_at}
+use Rattle.wdf_loop.specs.Runs.{cell_at}
 use Rattle.wdf_loop.specs.Shows.{AreFed, IsFedAnew, fed_or, values_in}
 use Rattle.wdf_loop.proofs.PassLemmas.{row_here, row_other}
 

@@ -1,5 +1,5 @@
 -- A run that stands may go on for as many frames as its plan has: the values of its slots are those of the reference steps.
-use Rattle.std.proofs.Common.{◌≡◌, ℕ, ◌+◌, ◌*◌, ◌<◌, ◌≤◌, ◌^◌, List, length, ap, sym, ◌∙◌, subst, arith}
+use Rattle.std.proofs.Common.{◌≡◌, ℕ, ◌+◌, ◌*◌, ◌<◌, ◌≤◌, ◌^◌, List, length, ap, ◌∙◌, arith}
 use Rattle.std.specs.Prelude.{ℤ, unsigned_abs}
 use Rattle.std.proofs.Math.Nat.{mul-le-mul}
 use Rattle.std.proofs.lemmas.Nat.{pow_pos}
@@ -28,7 +28,7 @@ use Rattle.wdf_loop.specs.Blocks.{CanRun, IsField, frame_values, slot_of}
 use Rattle.wdf_loop.specs.Layouts.{IsLayout, mark_at}
 use Rattle.wdf_loop.specs.NextFrames.{IsNext, Stands, slots_from, state_in}
 use Rattle.wdf_loop.specs.Shows.{AllShow, AreFed}
-use Rattle.wdf_loop.proofs.NextLemmas.{next_at, stands_at}
+use Rattle.wdf_loop.proofs.NextLemmas.{next_at}
 
 -- a number of a stage is a word in whole units
 below_limit : (q limit : ℕ) (z : ℤ) → 0 < q → q * limit ≤ 2 ^ 60 → unsigned_abs z ≤ limit → unsigned_abs z ≤ 2 ^ 60

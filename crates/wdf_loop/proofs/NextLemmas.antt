@@ -8,9 +8,9 @@ use Rattle.wdf_algebra.proofs.Polynomials.{con, ring, var, ◌⊕◌, ◌⊖◌,
 use Rattle.wdf_algebra.specs.JunctionValues.{parallel_value, root_value, series_part}
 use Rattle.wdf_algebra.specs.Truncation.{trunc}
 use Rattle.wdf_law.specs.Laws.{HasOneStep}
-use Rattle.wdf_law.specs.Network.{Network, elements, has_reactance, is_reactance, reactances, unit_of}
+use Rattle.wdf_law.specs.Network.{Network, elements, has_reactance, is_reactance, unit_of}
 use Rattle.wdf_law.specs.Run.{source_values, states}
-use Rattle.wdf_law.specs.Step.{Frame, Waves, after, ends, forks, sent_in}
+use Rattle.wdf_law.specs.Step.{Waves, after, ends, forks, sent_in}
 use Rattle.wdf_law.specs.TreeRules.{HasNumbers}
 use Rattle.wdf_law.proofs.NumberLemmas.{kind_among}
 use Rattle.wdf_bounds.specs.HeldWords.{AreLimited, HoldsWords, IsInput, IsReached}

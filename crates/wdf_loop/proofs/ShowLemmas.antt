@@ -7,8 +7,6 @@ use Rattle.std.proofs.lemmas.Bool.{cases_lt, lt-ltb, le-ltb}
 use mathlib.Core.Logic.{◌⊎◌, inl, inr}
 use Rattle.wdf_algebra.proofs.RingLaws.{linear, zero-mul}
 use Rattle.wdf_law.specs.Network.{unit_of, elements, has_reactance}
-use Rattle.wdf_law.specs.Run.{source_values}
-use Rattle.wdf_sched.specs.Meaning.{slot_at}
 use Rattle.wdf_sched.specs.Operations.{AreWithin, HoldAll, IsAtMost, Slots}
 use Rattle.wdf_sched.specs.Schedules.{ScheduleValue}
 use Rattle.wdf_loop.specs.declared.cell.Cell.{Cell}
@@ -19,7 +17,7 @@ use Rattle.wdf_loop.specs.declared.share.Share.{Share}
 use Rattle.wdf_loop.specs.Cells.{IsWord}
 use Rattle.wdf_loop.specs.Frames.{Begins, IsDone, IsFed, IsRun, RunValues, end_of, first_of, to_of}
 use Rattle.wdf_loop.specs.Layouts.{HasChain, IsElement, IsLayout, IsLinked, chain_at, fed_by, is_beside, is_under, mark_at, share_at}
-use Rattle.wdf_loop.specs.Runs.{IsClimb, IsDescent, IsJunction, Values, cell_at}
+use Rattle.wdf_loop.specs.Runs.{IsClimb, IsDescent, IsJunction, Values}
 use Rattle.wdf_loop.specs.Shows.{AllShow, AreFed, Follows}
 use Rattle.wdf_loop.proofs.LineLemmas.{end-root, first-end, last_or_next}
 

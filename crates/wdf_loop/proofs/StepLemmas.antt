@@ -1,5 +1,5 @@
 -- The sources fed and a frame done: the cells show what follows.
-use Rattle.std.proofs.Common.{◌≡◌, ℕ, suc, ◌+◌, ◌*◌, ◌<◌, ◌≤◌, ◌^◌, Bool, true, false, List, [], ◌∷◌, length, refl, ap, sym, ◌∙◌, subst, arith}
+use Rattle.std.proofs.Common.{◌≡◌, ℕ, suc, ◌+◌, ◌<◌, ◌≤◌, Bool, true, false, List, [], ◌∷◌, length, refl, ap, sym, ◌∙◌, subst, arith}
 use Rattle.std.specs.Prelude.{ℤ, unsigned_abs}
 use Rattle.std.proofs.lemmas.Bool.{cases_lt}
 use mathlib.Core.Logic.{◌⊎◌, inl, inr}
@@ -13,7 +13,7 @@ use Rattle.wdf_loop.specs.declared.mark.Mark.{Mark}
 use Rattle.wdf_loop.specs.declared.share.Share.{Share}
 use Rattle.wdf_loop.specs.Frames.{AllRun, AreDone, AreSigns, Begins, IsDone, IsRun, RunValues}
 use Rattle.wdf_loop.specs.Layouts.{HasChain, IsElement, IsLayout, fed_by, is_beside, mark_at, share_at}
-use Rattle.wdf_loop.specs.Runs.{AreShares, IsShare, cell_at}
+use Rattle.wdf_loop.specs.Runs.{AreShares, cell_at}
 use Rattle.wdf_loop.specs.Shows.{AllShow, AreFed, HaveBeenFed, IsFedAnew, values_in}
 use Rattle.wdf_loop.specs.Steps.{AllCanStep, CanStep, HaveStepped}
 use Rattle.wdf_loop.proofs.FeedLemmas.{fed_anew}

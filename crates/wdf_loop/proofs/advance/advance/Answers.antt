@@ -1,4 +1,4 @@
-use Rattle.std.proofs.Common.{rules, ◌≡◌, ℕ, ◌+◌, ◌-◌, ◌*◌, ◌<◌, ◌≤◌, length, ap, sym, ◌∙◌, subst, arith}
+use Rattle.std.proofs.Common.{◌≡◌, ◌+◌, ◌-◌, ◌*◌, ◌<◌, ◌≤◌, length, ap, sym, ◌∙◌, subst, arith}
 use Rattle.wdf_law.specs.Laws.{HasOneStep}
 use Rattle.wdf_law.specs.Network.{Network}
 use Rattle.wdf_law.specs.TreeRules.{HasNumbers}

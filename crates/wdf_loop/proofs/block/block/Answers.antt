@@ -1,7 +1,7 @@
-use Rattle.std.proofs.Common.{rules, ◌≡◌, ℕ, ◌+◌, ◌-◌, ◌*◌, ◌<◌, ◌≤◌, ◌^◌, List, length, take, drop, refl, sym, ◌∙◌, subst, arith}
-use Rattle.std.specs.Prelude.{ℤ, unsigned_abs}
+use Rattle.std.proofs.Common.{◌≡◌, ℕ, ◌+◌, ◌-◌, ◌*◌, ◌<◌, ◌≤◌, ◌^◌, length, take, drop, refl, sym, ◌∙◌, subst, arith}
+use Rattle.std.specs.Prelude.{unsigned_abs}
 use Rattle.std.proofs.lemmas.List.{length-drop, length-set, length-take-le}
-use Rattle.wdf_loop.specs.Blocks.{HaveRun, frame_rows}
+use Rattle.wdf_loop.specs.Blocks.{HaveRun}
 use Rattle.wdf_loop.specs.Cells.{value_of}
 use Rattle.wdf_loop.specs.Runs.{cell_at}
 use Rattle.wdf_loop.specs.Shows.{AreSmallValues}

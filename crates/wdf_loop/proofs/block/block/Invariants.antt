@@ -1,4 +1,4 @@
-use Rattle.std.proofs.Common.{◌≡◌, ℕ, ◌^◌, length}
+use Rattle.std.proofs.Common.{◌≡◌, ◌^◌, length}
 use Rattle.wdf_loop.specs.Blocks.{HaveRun}
 use Rattle.wdf_loop.proofs.block.block.Given as goal
 

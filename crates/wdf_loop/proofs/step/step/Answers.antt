@@ -1,6 +1,5 @@
-use Rattle.std.proofs.Common.{rules, ◌≡◌, ℕ, ◌+◌, ◌*◌, ◌<◌, ◌≤◌, ◌^◌, length, sym, ◌∙◌, arith}
+use Rattle.std.proofs.Common.{◌≡◌, ◌+◌, ◌*◌, ◌<◌, ◌≤◌, ◌^◌, length, ◌∙◌, arith}
 use Rattle.wdf_loop.specs.Frames.{AllRun}
-use Rattle.wdf_loop.specs.Layouts.{feed_at}
 use Rattle.wdf_loop.proofs.StepLemmas.{all_run, all_stepped}
 use Rattle.wdf_loop.proofs.step.step.Goals as goal
 
