@@ -315,10 +315,12 @@ pub is_layout : (s : ScheduleValue) (shares : List Share) (marks : List Mark) (c
 is_layout s shares marks chains feeds net r c f =
     let m = r.marked in record {
       root = r.root;
+      few = m.few;
       shares_count = r.shares_count;
       marks_count = m.count;
       junctions = r.junctions;
       turn = r.turn;
+      plain = r.plain;
       small = r.small;
       row = row s r.root marks chains m c;
       hung = linked s r.root marks chains m c;

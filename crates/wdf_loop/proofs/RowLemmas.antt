@@ -204,6 +204,14 @@ share-parallel : (q count : ℕ) (sign : ℤ) (z : Stage) → (share_of q count 
 share-parallel q count sign z =
     cond_both (is_swapped count z) (share_by z sign (q - z.m) z.m) (share_by z sign z.m (q - z.m)) (λ (s : Share). s.parallel ≡ z.parallel) (λ _. refl) (λ _. refl)
 
+-- the root is no parallel junction
+root_plain : (s : ScheduleValue) (sch : IsSchedule s) → (share_at (stage_shares s sch) (length sch.joined.junctions)).parallel ≡ false
+root_plain s sch =
+    let r = sch.joined in
+    let z = stage_of (root_junction r.m r.left.up r.right.up r.left.down r.right.down) in
+    let e = share_at-stage s sch (length sch.joined.junctions) (omega arith) ∙ ap (λ (k : Junction). share_for s (stage_of k)) (at_root s sch) in
+    ap (λ (x : Share). x.parallel) e ∙ share-parallel (unit_of s.net) (count_of s) (sign_in s.net (mark_of (count_of s) z).up) z
+
 mark-raw : (count : ℕ) (z : Stage) → (mark_of count z).raw ≡ z.raw
 mark-raw count z =
     cond_both (is_swapped count z) (mark_by z z.second z.first) (mark_by z z.first z.second) (λ (k : Mark). k.raw ≡ z.raw) (λ _. refl) (λ _. refl)
@@ -336,6 +344,7 @@ stage_row s sch net = record {
   shares_count = length-map (junctions_of s sch) (λ (k : Junction). share_for s (stage_of k)) ∙ stages_count s sch;
   junctions = stages_are s sch;
   turn = root_is s sch;
+  plain = root_plain s sch;
   small = all_small s sch;
   signs = signs_are s sch;
   shown = shown s sch net;

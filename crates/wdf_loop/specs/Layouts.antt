@@ -125,10 +125,12 @@ ShowsSlot s k i = (k.up ≡ i) ⊎ (k.below ≡ i) ⊎ (k.down ≡ i) ⊎ (k.onw
 pub record IsLayout (s : ScheduleValue) (shares : List Share) (marks : List Mark) (chains : List Chain) (feeds : List Feed) : Type 0 where
   -- the stages: the junctions are those below the number of the root
   pub root : ℕ
+  pub few : root < 1024
   pub shares_count : length shares ≡ root + 1
   pub marks_count : length marks ≡ root + 1
   pub junctions : (j : ℕ) → j < root → IsJunctionStage (unit_of s.net) s.ops (share_at shares j) (mark_at marks j)
   pub turn : IsRootStage (unit_of s.net) s.ops (share_at shares root) (mark_at marks root)
+  pub plain : (share_at shares root).parallel ≡ false
   pub small : (j : ℕ) → j ≤ root → IsSmallStage (unit_of s.net) s.ops (mark_at marks j)
   -- the chains, and where they hang
   pub row : IsRowOfChains root chains

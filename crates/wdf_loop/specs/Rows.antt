@@ -1,5 +1,5 @@
 -- The stages of a schedule in a row, without their chains.
-use Rattle.std.specs.Prelude.{◌≡◌, ℕ, ◌+◌, ◌<◌, ◌≤◌, List, length}
+use Rattle.std.specs.Prelude.{◌≡◌, ℕ, ◌+◌, ◌<◌, ◌≤◌, false, List, length}
 use Rattle.wdf_law.specs.Network.{elements, unit_of}
 use Rattle.wdf_sched.specs.Schedules.{ScheduleValue}
 use Rattle.wdf_loop.specs.declared.mark.Mark.{Mark}
@@ -15,6 +15,7 @@ pub record IsRow (s : ScheduleValue) (shares : List Share) (marks : List Mark) :
   pub shares_count : length shares ≡ root + 1
   pub junctions : (j : ℕ) → j < root → IsJunctionStage (unit_of s.net) s.ops (share_at shares j) (mark_at marks j)
   pub turn : IsRootStage (unit_of s.net) s.ops (share_at shares root) (mark_at marks root)
+  pub plain : (share_at shares root).parallel ≡ false
   pub small : (j : ℕ) → j ≤ root → IsSmallStage (unit_of s.net) s.ops (mark_at marks j)
   pub signs : (j : ℕ) → j ≤ root → (share_at shares j).sign ≡ sign_in s.net (mark_at marks j).up
   pub shown : (i : ℕ) → i < s.slot_count → (j : ℕ) × ((j ≤ root) × ShowsSlot (share_at shares j) (mark_at marks j) i)
