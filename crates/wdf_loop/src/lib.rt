@@ -2,8 +2,34 @@
 //! that an output sample holds, and whether that limited it.
 #![tactic(auto)]
 
+mod advance;
+mod ascent;
+mod block;
+mod cell;
+mod chain;
+mod chains;
+mod descent;
+mod ends;
+mod feed;
+mod feeding;
+mod feeds;
+mod field;
+mod frame;
+mod layout;
+mod leaf;
 mod limited;
+mod mark;
+mod outlet;
+mod passes;
+mod place;
+mod row;
+mod runs;
+mod share;
+mod stage;
+mod step;
+mod sums;
 #[cfg(test)]
 mod tests;
+mod width;
 
 pub use limited::{Limited, out_sample};

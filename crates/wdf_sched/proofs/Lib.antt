@@ -2,6 +2,7 @@ pub mod JunctionLemmas
 pub mod LeafLemmas
 pub mod ListLemmas
 pub mod OrderLemmas
+pub mod PartLemmas
 pub mod RunLemmas
 pub mod ScheduleLemmas
 pub mod ShareLemmas

@@ -12,6 +12,7 @@ use Rattle.wdf_sched.specs.Compiled.{all_slots, down_slot, ops_of, down_slots_of
 use Rattle.wdf_sched.proofs.JunctionLemmas.{all-joined}
 use Rattle.wdf_sched.proofs.LeafLemmas.{is_below, in_first, in_second}
 use Rattle.wdf_sched.proofs.OrderLemmas.{all-order, down_slot-below, slots-few}
+use Rattle.wdf_sched.proofs.PartLemmas.{all-parts}
 use Rattle.wdf_sched.proofs.ShareLemmas.{all-shares}
 use Rattle.wdf_sched.proofs.SizeLemmas.{all-within}
 use Rattle.wdf_sched.proofs.WaveLemmas.{all-sent}
@@ -48,6 +49,7 @@ is_made n rules numbers sound one =
         order = all-order n.m n.left n.right count left right;
         joined = all-joined (down_slots_of n) n.m n.left n.right count numbers.disjoint numbers.left numbers.right
             (λ i h. let below = numbers.below i h in (subst (λ (c : ℕ). i < c) (sym each) below, sym (slot_at-down_slots n i below)));
+        parts = all-parts n.m n.left n.right count;
         few = slots-few n.left n.right count refl most;
         multipliers = all-shares (unit_of n) n.m n.left n.right count sound.some sound.few sound.left sound.right;
         each = each;

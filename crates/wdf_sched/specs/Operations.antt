@@ -105,3 +105,23 @@ written_by (DownParallel a b d raw x y) = 2
 abbrev pub InOrder : ℕ → List Op → ℕ → Type 0
 InOrder next [] end = next ≡ end
 InOrder next (op ∷ ops) end = ReadsBelow next op × WritesFrom next op × InOrder (next + written_by op) ops end
+
+-- ---- parts
+
+-- the slots of the waves that the junctions and the root read as those of their parts, on the way up
+abbrev pub part_slots : List Op → List ℕ
+part_slots [] = []
+part_slots (UpSeries a b out ∷ ops) = a ∷ b ∷ part_slots ops
+part_slots (UpParallel a b m raw out ∷ ops) = a ∷ b ∷ part_slots ops
+part_slots (Root a b m x y ∷ ops) = a ∷ b ∷ part_slots ops
+part_slots (DownSeries a b d m x y ∷ ops) = part_slots ops
+part_slots (DownParallel a b d raw x y ∷ ops) = part_slots ops
+
+-- and of those that the junctions reflect
+abbrev pub own_slots : List Op → List ℕ
+own_slots [] = []
+own_slots (UpSeries a b out ∷ ops) = out ∷ own_slots ops
+own_slots (UpParallel a b m raw out ∷ ops) = out ∷ own_slots ops
+own_slots (Root a b m x y ∷ ops) = own_slots ops
+own_slots (DownSeries a b d m x y ∷ ops) = own_slots ops
+own_slots (DownParallel a b d raw x y ∷ ops) = own_slots ops

@@ -15,8 +15,9 @@ use wdf_law::Net;
 ///
 /// It keeps that each further slot is written once, in the order of the slots' numbers, and read
 /// only after that; that there are at most 1,024 slots; that each multiplier is in `1..=2^k - 1`; that
-/// the way down goes through the junctions in exactly the reverse order of the way up; and that the
-/// operations compute the network's step.
+/// the way down goes through the junctions in exactly the reverse order of the way up; that each
+/// element and each junction is a part of one junction or of the root; and that the operations
+/// compute the network's step.
 #[derive(Drop)]
 pub struct Schedule {
     pub(crate) net: Net,

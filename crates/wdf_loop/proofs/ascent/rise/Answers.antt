@@ -1,0 +1,77 @@
+use Rattle.std.proofs.Common.{◌≡◌, ℕ, ◌+◌, ◌-◌, ◌*◌, ◌<◌, ◌≤◌, ◌^◌, length, refl, ◌∙◌, subst, arith}
+use Rattle.std.proofs.lemmas.List.{length-set}
+use Rattle.wdf_loop.specs.Frames.{HaveRisenTo, end_of, first_of, to_of}
+use Rattle.wdf_loop.specs.Layouts.{chain_at}
+use Rattle.wdf_loop.specs.Runs.{AllCanAscend}
+use Rattle.wdf_loop.proofs.AscentLemmas.{rise_can, rise_last, rise_more, risen_none}
+use Rattle.wdf_loop.proofs.LineLemmas.{end-root, first-end}
+use Rattle.wdf_loop.proofs.ascent.rise.Goals as goal
+
+pub loop-t-init : goal.loop-t-init
+loop-t-init g c = record {
+  long = refl;
+  risen = risen_none g.row.C (2 ^ g.row.K) c.args.root c.args.shares.now c.args.chains.now c.args.cells.now c.requires.chains;
+}
+
+pub ascend-requires : goal.ascend-requires
+ascend-requires g c =
+    let q : ℕ = 2 ^ g.row.K in
+    let left = c.loop-t-test.true in
+    let small : c.loop-t.t < length c.args.chains.now = omega arith in
+    let order = first-end c.args.root c.args.chains.now c.requires.chains c.loop-t.t small in
+    let top = end-root c.args.root c.args.chains.now c.requires.chains c.loop-t.t small in
+    let stages = c.requires.stages in
+    let shares = c.requires.each in
+    let long = c.loop-t.invariant.long in
+    let bottom : first_of c.args.chains.now c.loop-t.t < length c.loop-t.cells = omega arith in
+    let inside : end_of c.args.chains.now c.loop-t.t ≤ length c.loop-t.cells = omega arith in
+    let each : length c.args.shares.now ≡ length c.loop-t.cells = omega arith in
+    let can : AllCanAscend g.row.C (2 ^ g.row.K) c.args.shares.now (first_of c.args.chains.now c.loop-t.t) (end_of c.args.chains.now c.loop-t.t) (chain_at c.args.chains.now c.loop-t.t).sign c.loop-t.cells =
+    rise_can g.row.C (2 ^ g.row.K) c.args.root c.args.shares.now c.args.chains.now c.loop-t.t c.args.cells.now c.loop-t.cells c.requires.chains small c.requires.run c.loop-t.invariant.risen in
+    let runs : g.row.C ≤ 4 = c.requires.runs in
+    let one : g.row.C * 56 < 9223372036854775808 = omega arith in
+    let two : g.row.C * 8 < 9223372036854775808 = omega arith in
+    (one, (two, (c.requires.few, (c.requires.runs, (order, (bottom, (inside, (each, (c.requires.shares, (c.requires.signs c.loop-t.t small, can))))))))))
+
+pub loop-t-preserved : goal.loop-t-preserved
+loop-t-preserved g c =
+    let left = c.loop-t-test.true in
+    let more : c.loop-t.t + 1 < length c.args.chains.now = omega arith in
+    let stages = c.requires.stages in
+    let long = c.loop-t.invariant.long in
+    let same = c.ascend.auto.cells in
+    record {
+      long = length-set c.ascend.new.cells (to_of c.args.chains.now c.loop-t.t) c.deliver.new.row ∙ omega arith;
+      risen = rise_more g.row.C (2 ^ g.row.K) c.args.root c.args.shares.now c.args.chains.now c.loop-t.t c.args.cells.now c.loop-t.cells c.ascend.new.cells c.ascend.new.waves c.deliver.new.row
+          c.requires.chains more (omega arith) c.loop-t.invariant.risen c.ascend.ensures.ascend c.ascend.ensures.others c.deliver.ensures;
+    }
+
+pub ascend-requires-2 : goal.ascend-requires-2
+ascend-requires-2 g c =
+    let some = c.requires.chains.some in
+    let at : c.loop-t.t ≡ length c.args.chains.now - 1 = let most = c.loop-t.auto.t-end in let least = c.loop-t-test.false in omega arith in
+    let small : length c.args.chains.now - 1 < length c.args.chains.now = omega arith in
+    let order = first-end c.args.root c.args.chains.now c.requires.chains (length c.args.chains.now - 1) small in
+    let top = end-root c.args.root c.args.chains.now c.requires.chains (length c.args.chains.now - 1) small in
+    let stages = c.requires.stages in
+    let shares = c.requires.each in
+    let long = c.loop-t.invariant.long in
+    let bottom : first_of c.args.chains.now (length c.args.chains.now - 1) < length c.loop-t.cells = omega arith in
+    let inside : end_of c.args.chains.now (length c.args.chains.now - 1) ≤ length c.loop-t.cells = omega arith in
+    let each : length c.args.shares.now ≡ length c.loop-t.cells = omega arith in
+    let risen = subst (λ (t : ℕ). HaveRisenTo g.row.C (2 ^ g.row.K) c.args.root c.args.shares.now c.args.chains.now t c.args.cells.now c.loop-t.cells) at c.loop-t.invariant.risen in
+    let can : AllCanAscend g.row.C (2 ^ g.row.K) c.args.shares.now (first_of c.args.chains.now (length c.args.chains.now - 1)) (end_of c.args.chains.now (length c.args.chains.now - 1)) (chain_at c.args.chains.now (length c.args.chains.now - 1)).sign c.loop-t.cells =
+    rise_can g.row.C (2 ^ g.row.K) c.args.root c.args.shares.now c.args.chains.now (length c.args.chains.now - 1) c.args.cells.now c.loop-t.cells c.requires.chains small c.requires.run risen in
+    let runs : g.row.C ≤ 4 = c.requires.runs in
+    let one : g.row.C * 56 < 9223372036854775808 = omega arith in
+    let two : g.row.C * 8 < 9223372036854775808 = omega arith in
+    (one, (two, (c.requires.few, (c.requires.runs, (order, (bottom, (inside, (each, (c.requires.shares, (c.requires.signs (length c.args.chains.now - 1) small, can))))))))))
+
+pub returns : goal.returns
+returns g c =
+    let some = c.requires.chains.some in
+    let at : c.loop-t.t ≡ length c.args.chains.now - 1 = let most = c.loop-t.auto.t-end in let least = c.loop-t-test.false in omega arith in
+    let last : length c.args.chains.now - 1 + 1 ≡ length c.args.chains.now = omega arith in
+    let risen = subst (λ (t : ℕ). HaveRisenTo g.row.C (2 ^ g.row.K) c.args.root c.args.shares.now c.args.chains.now t c.args.cells.now c.loop-t.cells) at c.loop-t.invariant.risen in
+    rise_last g.row.C (2 ^ g.row.K) c.args.root c.args.shares.now c.args.chains.now (length c.args.chains.now - 1) c.args.cells.now c.loop-t.cells c.ascend-2.new.cells c.ascend-2.new.waves
+    c.requires.chains last risen c.ascend-2.ensures.ascend c.ascend-2.ensures.others

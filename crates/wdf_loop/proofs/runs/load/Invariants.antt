@@ -1,0 +1,11 @@
+use Rattle.std.proofs.Common.{◌≡◌, ℕ, ◌<◌, length}
+use Rattle.wdf_law.specs.Elements.{signed}
+use Rattle.wdf_loop.specs.Cells.{value_of}
+use Rattle.wdf_loop.specs.RunCells.{cell_in, wave_in}
+use Rattle.wdf_loop.proofs.runs.load.Given as goal
+
+abbrev pub invariant-loop-c : goal.invariant-loop-c
+invariant-loop-c g l = record {
+  waves_long : length l.waves ≡ g.row.C;
+  so_far : (i : ℕ) → i < l.c → wave_in l.waves i ≡ signed l.outlet.flip (value_of l.outlet.field (cell_in l.row i));
+}

@@ -1,0 +1,183 @@
+ghost use Rattle.std.specs.Prelude.{◌≡◌, ◌+◌, ◌*◌, ◌<◌, ◌≤◌, ◌^◌, pos, ◌+ℤ◌, ◌-ℤ◌, ◌*ℤ◌, unsigned_abs};
+ghost use Rattle.wdf_algebra.specs.JunctionValues.{parallel_value};
+ghost use Rattle.wdf_algebra.specs.Truncation.{trunc};
+ghost use Rattle.wdf_loop.specs.Cells.{AreWords, CanBegin, CanFall, CanRise, IsWord, bottom, fallen, fallen_parallel, fallen_series, given, reflects, risen, risen_parallel, risen_series, turned, value_of, wave_up};
+
+use crate::feed::Feed;
+use crate::field::Field;
+use crate::share::Share;
+use crate::sums::{minus, plus, reflected, signed, weighed};
+use wdf_algebra::{Rounded, parallel_part, root_part, series_first, series_second, times};
+
+/// The numbers of a junction in one run, those of its last frame; all but `raw` are waves. One part
+/// of the junction hangs beside it, and the other is the tree below.
+#[derive(Clone, Copy, Debug, PartialEq, Eq)]
+pub(crate) struct Cell {
+    /// What the part beside reflects besides its own state: a source's value, or a tree's wave.
+    pub(crate) fed: i64,
+    /// What the tree below reflects besides its own state, where it is an element: a source's value.
+    pub(crate) under: i64,
+    /// What the part beside reflects.
+    pub(crate) up: i64,
+    /// What the tree below reflects.
+    pub(crate) below: i64,
+    /// What a parallel junction reflects before it is truncated, in units of 1/q.
+    pub(crate) raw: i64,
+    /// What the part beside is sent.
+    pub(crate) down: i64,
+    /// What the tree below is sent.
+    pub(crate) onward: i64,
+}
+
+impl Cell {
+    // What the part beside reflects.
+    fn reflected<const K: u32>(&self, share: Share) -> i64
+        requires few { K ≤ 20 }
+        requires sign { unsigned_abs share.sign ≤ 1 }
+        requires fed { unsigned_abs self.now.fed ≤ 2 ^ 61 }
+        requires down { IsWord (2 ^ K) self.now.down }
+        ensures { result ≡ reflects share self.now }
+    {
+        reflected::<K>(share.sign, self.down, self.fed)
+    }
+
+    /// What the element below reflects, whose kind's sign is this.
+    pub(crate) fn bottom<const K: u32>(&self, sign: i64) -> i64
+        requires few { K ≤ 20 }
+        requires sign { unsigned_abs sign ≤ 1 }
+        requires can { CanBegin (2 ^ K) self.now }
+        ensures { result ≡ bottom sign self.now }
+    {
+        reflected::<K>(sign, self.onward, self.under)
+    }
+
+    /// The number of this name.
+    pub(crate) fn value(&self, field: Field) -> i64
+        ensures { result ≡ value_of field self.now }
+    {
+        match field {
+            Field::Up => self.up,
+            Field::Down => self.down,
+            Field::Below => self.below,
+            Field::Onward => self.onward,
+            Field::Raw => self.raw,
+        }
+    }
+
+    /// Feeds a source of the stage with its value.
+    pub(crate) fn give(&mut self, feed: Feed, value: i64)
+        requires { unsigned_abs value ≤ 2 ^ 60 }
+        ensures { self.new ≡ given feed value self.old }
+    {
+        let fed = signed(feed.flip, value);
+        if feed.beside {
+            self.fed = fed;
+        } else {
+            self.under = fed;
+        }
+    }
+
+    // A series junction on the way up.
+    fn rise_series<const K: u32>(&mut self, share: Share, wave: i64) -> i64
+        requires few { K ≤ 20 }
+        requires can { CanRise (2 ^ K) share wave self.old }
+        ensures cell { self.new ≡ risen_series share wave self.old }
+        ensures wave { result ≡ self.new.up +ℤ self.new.below }
+    {
+        self.up = self.reflected::<K>(share);
+        self.below = wave;
+        plus(self.up, wave)
+    }
+
+    // A parallel junction on the way up.
+    fn rise_parallel<const K: u32>(&mut self, share: Share, wave: i64) -> i64
+        requires few { K ≤ 20 }
+        requires whole { share.m + share.n ≡ 2 ^ K }
+        requires can { CanRise (2 ^ K) share wave self.old }
+        ensures cell { self.new ≡ risen_parallel share wave self.old }
+        ensures wave { result ≡ trunc self.new.raw (2 ^ K) }
+    {
+        self.up = self.reflected::<K>(share);
+        self.below = wave;
+        self.raw = plus(weighed::<K>(share.m, self.up), weighed::<K>(share.n, wave));
+        Rounded::by_power::<K>(self.raw).truncated()
+    }
+
+    /// A junction on the way up, the tree below reflecting `wave`: the wave that it reflects.
+    pub(crate) fn rise<const K: u32>(&mut self, share: Share, wave: i64) -> i64
+        requires few { K ≤ 20 }
+        requires whole { share.m + share.n ≡ 2 ^ K }
+        requires can { CanRise (2 ^ K) share wave self.old }
+        ensures cell { self.new ≡ risen share wave self.old }
+        ensures wave { result ≡ wave_up (2 ^ K) share self.new }
+    {
+        if share.parallel {
+            self.rise_parallel::<K>(share, wave)
+        } else {
+            self.rise_series::<K>(share, wave)
+        }
+    }
+
+    // A series junction on the way down.
+    fn fall_series<const K: u32>(&mut self, share: Share, wave: i64) -> i64
+        requires some { 1 ≤ K }
+        requires few { K ≤ 20 }
+        requires whole { share.m + share.n ≡ 2 ^ K }
+        requires words { AreWords (2 ^ K) wave self.old }
+        ensures cell { self.new ≡ fallen_series (2 ^ K) share wave self.old }
+        ensures wave { result ≡ self.new.onward }
+    {
+        let whole = minus(wave, plus(self.up, self.below));
+        let part = Rounded::by_power::<K>(weighed::<K>(share.m, whole));
+        self.down = series_first(part, self.up);
+        self.onward = series_second(part, whole, self.below);
+        self.onward
+    }
+
+    // A parallel junction on the way down.
+    fn fall_parallel<const K: u32>(&mut self, wave: i64) -> i64
+        requires few { K ≤ 20 }
+        requires words { AreWords (2 ^ K) wave self.old }
+        requires raw { unsigned_abs self.old.raw ≤ 2 ^ 61 }
+        ensures cell { self.new ≡ fallen_parallel (2 ^ K) wave self.old }
+        ensures wave { result ≡ self.new.onward }
+    {
+        let sum = Rounded::by_power::<K>(self.raw);
+        self.down = parallel_part(sum, wave, self.up);
+        self.onward = parallel_part(sum, wave, self.below);
+        self.onward
+    }
+
+    /// A junction on the way down, which is sent `wave`: the wave that the tree below is sent.
+    pub(crate) fn fall<const K: u32>(&mut self, share: Share, wave: i64) -> i64
+        requires some { 1 ≤ K }
+        requires few { K ≤ 20 }
+        requires whole { share.m + share.n ≡ 2 ^ K }
+        requires can { CanFall (2 ^ K) share wave self.old }
+        ensures cell { self.new ≡ fallen (2 ^ K) share wave self.old }
+        ensures wave { result ≡ self.new.onward }
+    {
+        if share.parallel {
+            self.fall_parallel::<K>(wave)
+        } else {
+            self.fall_series::<K>(share, wave)
+        }
+    }
+
+    /// The root, with the tree below reflecting `wave`: the wave that this tree is sent.
+    pub(crate) fn turn<const K: u32>(&mut self, share: Share, wave: i64) -> i64
+        requires few { K ≤ 20 }
+        requires whole { share.m + share.n ≡ 2 ^ K }
+        requires can { CanRise (2 ^ K) share wave self.old }
+        ensures cell { self.new ≡ turned (2 ^ K) share wave self.old }
+        ensures wave { result ≡ self.new.onward }
+    {
+        self.up = self.reflected::<K>(share);
+        self.below = wave;
+        let sum = plus(weighed::<K>(share.m, self.up), weighed::<K>(share.n, wave));
+        let voltage = Rounded::by_power::<K>(times(2, sum));
+        self.down = root_part(voltage, self.up);
+        self.onward = root_part(voltage, wave);
+        self.onward
+    }
+}

@@ -1,0 +1,52 @@
+// Sums and products that fit.
+ghost use Rattle.std.specs.Prelude.{◌≡◌, ◌+◌, ◌*◌, ◌<◌, ◌≤◌, ◌^◌, pos, ◌+ℤ◌, ◌-ℤ◌, ◌*ℤ◌, unsigned_abs};
+ghost use Rattle.wdf_law.specs.Elements.{signed};
+ghost use Rattle.wdf_loop.specs.Cells.{IsWord};
+
+use wdf_algebra::times;
+
+pub(crate) fn plus(a: i64, b: i64) -> i64
+    requires { unsigned_abs a + unsigned_abs b < 2 ^ 63 }
+    ensures value { result ≡ a +ℤ b }
+    ensures size { unsigned_abs result ≤ unsigned_abs a + unsigned_abs b }
+{
+    a + b
+}
+
+pub(crate) fn minus(a: i64, b: i64) -> i64
+    requires { unsigned_abs a + unsigned_abs b < 2 ^ 63 }
+    ensures value { result ≡ a -ℤ b }
+    ensures size { unsigned_abs result ≤ unsigned_abs a + unsigned_abs b }
+{
+    a - b
+}
+
+/// What an element reflects whose last down wave is `state`, and which is fed `fed`.
+pub(crate) fn reflected<const K: u32>(sign: i64, state: i64, fed: i64) -> i64
+    requires few { K ≤ 20 }
+    requires sign { unsigned_abs sign ≤ 1 }
+    requires state { IsWord (2 ^ K) state }
+    requires fed { unsigned_abs fed ≤ 2 ^ 61 }
+    ensures { result ≡ sign *ℤ state +ℤ fed }
+{
+    plus(times(sign, state), fed)
+}
+
+/// A value, negated where `flip` says so.
+pub(crate) fn signed(flip: bool, value: i64) -> i64
+    requires { unsigned_abs value ≤ 2 ^ 60 }
+    ensures { result ≡ signed flip value }
+{
+    if flip { -value } else { value }
+}
+
+/// m·z, where m is at most q.
+#[tactic(auto, using(crate::proofs::Sizes::share))]
+pub(crate) fn weighed<const K: u32>(m: u32, z: i64) -> i64
+    requires part { m ≤ 2 ^ K }
+    requires small { 2 ^ K * unsigned_abs z ≤ 2 ^ 62 }
+    ensures value { result ≡ pos m *ℤ z }
+    ensures size { unsigned_abs result ≤ 2 ^ K * unsigned_abs z }
+{
+    times(i64::from(m), z)
+}
