@@ -22,6 +22,7 @@ mod mark;
 mod outlet;
 mod passes;
 mod place;
+mod rest;
 mod row;
 mod runs;
 mod share;

@@ -1,0 +1,78 @@
+-- The engine as clauses see it: its network and plan, the frames done, and of each run the down waves of the last frame; and how
+-- runs go on.
+use Rattle.std.specs.Prelude.{◌≡◌, ℕ, ◌+◌, ◌*◌, ◌<◌, ◌≤◌, ℤ, pos, List, [], length, map, take, drop, slice_index_or}
+use Rattle.wdf_law.specs.Network.{Network, elements, reactances, source_numbers}
+use Rattle.wdf_law.specs.Step.{Frame, IsStep, after, sent_in}
+use Rattle.wdf_law.specs.Run.{at_rest, states}
+use Rattle.wdf_law.specs.OutputRule.{drive, load_wave}
+use Rattle.wdf_bounds.specs.HeldWords.{IsReached}
+use Rattle.wdf_bounds.specs.Plans.{PlanOf}
+use Rattle.wdf_bounds.specs.WordBound.{Fits}
+
+pub record EngineValue : Type 0 where
+  pub net : Network
+  pub plan : PlanOf
+  pub done : ℕ
+  -- of each run by the elements' numbers; each 0 before the first frame
+  pub downs : List (List ℤ)
+
+-- how many runs it has
+abbrev pub runs_of : EngineValue → ℕ
+runs_of a = length a.downs
+
+-- what an element was sent last in a run
+abbrev pub sent_at : EngineValue → ℕ → ℕ → ℤ
+sent_at a run i = slice_index_or (slice_index_or a.downs run []) i (pos 0)
+
+-- the state of a run: the down waves of the reactances, in netlist order
+abbrev pub state_of : EngineValue → ℕ → List ℤ
+state_of a run = map (sent_at a run) (reactances a.net)
+
+-- what the type keeps, as callers see it: the plan fits, and the energy stored in the state of each run is at most what the
+-- sources can have sent in
+pub record KeepsPlan (a : EngineValue) : Type 0 where
+  pub fits : Fits a.net a.plan
+  pub frames : a.done ≤ a.plan.frames
+  pub reached : (run : ℕ) → run < runs_of a → IsReached a.net a.plan a.done (state_of a run)
+
+-- a new engine
+pub record IsFresh (a : EngineValue) (n : Network) (plan : PlanOf) (runs : ℕ) : Type 0 where
+  pub net : a.net ≡ n
+  pub plans : a.plan ≡ plan
+  pub count : runs_of a ≡ runs
+  pub done : a.done ≡ 0
+  pub state : (run : ℕ) → run < runs → state_of a run ≡ at_rest n
+  pub downs : (run i : ℕ) → run < runs → sent_at a run i ≡ pos 0
+
+-- ---- a block
+
+-- Of whole frames, in each of which the samples of one run stand behind those of the other, those of a run in a frame: one for
+-- each source, source 0 first.
+abbrev pub samples_of : (runs sources run frame : ℕ) → List ℤ → List ℤ
+samples_of runs sources run frame input = take sources (drop ((frame * runs + run) * sources) input)
+
+-- a frame of a run, from the state zs to the state behind it: the step driven by the samples, with the load wave w
+pub record IsFrame (n : Network) (plan : PlanOf) (samples zs behind : List ℤ) (w : ℤ) : Type 0 where
+  pub frame : Frame
+  pub step : IsStep n (states n zs) (drive plan.guard n samples) frame
+  pub wave : w ≡ load_wave n frame
+  pub state : behind ≡ after n frame
+
+-- The run goes on from the engine a by so many frames to b: frame after frame, each from the state that the one before left, and
+-- b has what the last one sent.
+pub record RunsOn (a b : EngineValue) (count : ℕ) (input output : List ℤ) (run : ℕ) : Type 0 where
+  -- the states by how many frames are done
+  pub state : ℕ → List ℤ
+  pub begins : state 0 ≡ state_of a run
+  pub frames : (f : ℕ) → f < count
+      → IsFrame a.net a.plan (samples_of (runs_of a) (length (source_numbers a.net)) run f input) (state f) (state (f + 1)) (slice_index_or output (f * runs_of a + run) (pos 0))
+  pub ends : state count ≡ state_of b run
+  pub sent : (f : ℕ) (h : f < count) → f + 1 ≡ count → (i : ℕ) → i < length (elements a.net) → sent_at b run i ≡ sent_in a.net (frames f h).frame i
+
+-- so does each run, and nothing else is changed
+pub record IsBlock (a b : EngineValue) (count : ℕ) (input output : List ℤ) : Type 0 where
+  pub on : (run : ℕ) → run < runs_of a → RunsOn a b count input output run
+  pub net : b.net ≡ a.net
+  pub plans : b.plan ≡ a.plan
+  pub runs : runs_of b ≡ runs_of a
+  pub done : b.done ≡ a.done + count
