@@ -24,9 +24,13 @@ runs_of a = length a.downs
 abbrev pub sent_at : EngineValue → ℕ → ℕ → ℤ
 sent_at a run i = slice_index_or (slice_index_or a.downs run []) i (pos 0)
 
--- the state of a run: the down waves of the reactances, in netlist order
+-- the state: the down waves of the reactances, in netlist order
+abbrev pub gathered : Network → List ℤ → List ℤ
+gathered n downs = map (λ (i : ℕ). slice_index_or downs i (pos 0)) (reactances n)
+
+-- that of a run
 abbrev pub state_of : EngineValue → ℕ → List ℤ
-state_of a run = map (sent_at a run) (reactances a.net)
+state_of a run = gathered a.net (slice_index_or a.downs run [])
 
 -- what the type keeps, as callers see it: the plan fits, and the energy stored in the state of each run is at most what the
 -- sources can have sent in
@@ -58,20 +62,21 @@ pub record IsFrame (n : Network) (plan : PlanOf) (samples zs behind : List ℤ) 
   pub wave : w ≡ load_wave n frame
   pub state : behind ≡ after n frame
 
--- The run goes on from the engine a by so many frames to b: frame after frame, each from the state that the one before left, and
--- b has what the last one sent.
-pub record RunsOn (a b : EngineValue) (count : ℕ) (input output : List ℤ) (run : ℕ) : Type 0 where
+-- One of so many runs goes on by so many frames, each from the state that the one before left, driven by its samples; before and
+-- behind them its elements were sent these waves.
+pub record RunsOn (n : Network) (plan : PlanOf) (runs count : ℕ) (input output before behind : List ℤ) (run : ℕ) : Type 0 where
   -- the states by how many frames are done
   pub state : ℕ → List ℤ
-  pub begins : state 0 ≡ state_of a run
+  pub begins : state 0 ≡ gathered n before
   pub frames : (f : ℕ) → f < count
-      → IsFrame a.net a.plan (samples_of (runs_of a) (length (source_numbers a.net)) run f input) (state f) (state (f + 1)) (slice_index_or output (f * runs_of a + run) (pos 0))
-  pub ends : state count ≡ state_of b run
-  pub sent : (f : ℕ) (h : f < count) → f + 1 ≡ count → (i : ℕ) → i < length (elements a.net) → sent_at b run i ≡ sent_in a.net (frames f h).frame i
+      → IsFrame n plan (samples_of runs (length (source_numbers n)) run f input) (state f) (state (f + 1)) (slice_index_or output (f * runs + run) (pos 0))
+  pub ends : state count ≡ gathered n behind
+  -- what the last frame sent
+  pub sent : (f : ℕ) (h : f < count) → f + 1 ≡ count → (i : ℕ) → i < length (elements n) → slice_index_or behind i (pos 0) ≡ sent_in n (frames f h).frame i
 
--- so does each run, and nothing else is changed
+-- so does each run of an engine, and nothing else is changed
 pub record IsBlock (a b : EngineValue) (count : ℕ) (input output : List ℤ) : Type 0 where
-  pub on : (run : ℕ) → run < runs_of a → RunsOn a b count input output run
+  pub on : (run : ℕ) → run < runs_of a → RunsOn a.net a.plan (runs_of a) count input output (slice_index_or a.downs run []) (slice_index_or b.downs run []) run
   pub net : b.net ≡ a.net
   pub plans : b.plan ≡ a.plan
   pub runs : runs_of b ≡ runs_of a

@@ -4,7 +4,7 @@ use Rattle.wdf_bounds.specs.HeldWords.{HoldsWords}
 use Rattle.wdf_loop.specs.declared.cell.Cell.{Cell}
 use Rattle.wdf_loop.specs.Advances.{AllAreAt}
 use Rattle.wdf_loop.proofs.RestLemmas.{all_at_rest}
-use Rattle.wdf_loop.proofs.ValueLemmas.{value_is}
+use Rattle.wdf_loop.proofs.RunsOnLemmas.{runs_on}
 use Rattle.wdf_loop.proofs.rest.at_rest.Goals as goal
 
 pub returns-clause-rest : goal.returns-clause-rest
