@@ -25,6 +25,7 @@ mod place;
 mod rest;
 mod row;
 mod runs;
+mod samples;
 mod share;
 mod stage;
 mod step;
