@@ -20,6 +20,7 @@ mod leaf;
 mod limited;
 mod mark;
 mod outlet;
+mod outputs;
 mod passes;
 mod place;
 mod rest;
