@@ -8,7 +8,7 @@ use Rattle.wdf_loop.specs.Inputs.{HoldFrames, HoldsSamples}
 use Rattle.wdf_loop.specs.RunCells.{wave_in}
 
 -- so much more of each of fewer
-next_whole : (x most each : ℕ) → x + 1 ≤ most → x * each + each ≤ most * each
+pub next_whole : (x most each : ℕ) → x + 1 ≤ most → x * each + each ≤ most * each
 next_whole x most each h =
     let more : (x + 1) * each ≤ most * each = mul-le-mul h (omega arith) in
     let apart : (x + 1) * each ≡ x * each + 1 * each = add-mul x 1 each in

@@ -95,3 +95,8 @@ runs_on s plan done count shares marks chains feeds cells behind rows waves c ru
       down_at s shares marks chains feeds (goes.slots count) behind c i lay rules long_behind goes.shows small
       ∙ (ap (λ (k : ℕ). goes.slots k (slot_at s.down_slots i)) (sym last) ∙ (goes.next f h).sent i small);
 }
+
+-- and stands where its frames have led
+pub at_end : (s : ScheduleValue) (plan : PlanOf) (done count : ℕ) (shares : List Share) (marks : List Mark) (chains : List Chain) (feeds : List Feed) (before : Slots) (rows : List (List ℤ)) (behind : List (List Cell))
+    (waves : List (List ℤ)) (c : ℕ) → GoesOn s plan done count shares marks chains feeds before rows behind waves c → IsAt s plan (done + count) shares marks chains feeds behind c
+at_end s plan done count shares marks chains feeds before rows behind waves c goes = record { slots = goes.slots count; values = goes.values; stands = goes.stands; shows = goes.shows; fed = goes.fed }

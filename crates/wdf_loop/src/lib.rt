@@ -15,6 +15,7 @@ mod feeding;
 mod feeds;
 mod field;
 mod frame;
+mod group;
 mod layout;
 mod leaf;
 mod limited;

@@ -23,17 +23,28 @@ scale_frame-requires g c =
     let each = c.requires.each in
     let rows = ahead c.loop-f.f c.args.count c.args.sources h in
     let long = c.loop-f.invariant.long in
-    let room = c.requires.room in
-    (one, (runs, (c.requires.guard, (c.requires.amplitude, (
-      λ i c' small few.
-          subst (λ (n : ℕ). (c.loop-f.f * c.args.all + c.args.first) * c.args.sources + i + c' * c.args.sources < n) (sym each)
-          (inside c.loop-f.f c.args.count c.args.all c.args.first g.row.C c.args.sources i c' h c.requires.within small few),
+    let room = c.requires.room in (
+      one,
       (
-        subst (λ (n : ℕ). (c.loop-f.f * c.args.all + c.args.first) * c.args.sources + c.args.sources ≤ n) (sym each)
-        (whole c.loop-f.f c.args.count c.args.all c.args.first g.row.C c.args.sources h c.requires.within c.requires.some),
-        omega (arith, rows, long, room),
+        runs,
+        (
+          c.requires.guard,
+          (
+            c.requires.amplitude,
+            (
+              λ i c' small few.
+                  subst (λ (n : ℕ). (c.loop-f.f * c.args.all + c.args.first) * c.args.sources + i + c' * c.args.sources < n) (sym each)
+                  (inside c.loop-f.f c.args.count c.args.all c.args.first g.row.C c.args.sources i c' h c.requires.within small few),
+              (
+                subst (λ (n : ℕ). (c.loop-f.f * c.args.all + c.args.first) * c.args.sources + c.args.sources ≤ n) (sym each)
+                    (whole c.loop-f.f c.args.count c.args.all c.args.first g.row.C c.args.sources h c.requires.within c.requires.some),
+                omega (arith, rows, long, room),
+              ),
+            ),
+          ),
+        ),
       ),
-    )))))
+    )
 
 pub loop-f-preserved : goal.loop-f-preserved
 loop-f-preserved g c =
