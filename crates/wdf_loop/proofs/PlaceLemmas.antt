@@ -1,5 +1,5 @@
 -- The places of samples and of load waves: by frames, then runs, then sources.
-use Rattle.std.proofs.Common.{◌≡◌, ℕ, suc, ◌+◌, ◌*◌, ◌<◌, ◌≤◌, ◌^◌, List, [], length, sym, ◌∙◌, subst, arith}
+use Rattle.std.proofs.Common.{◌≡◌, ℕ, ◌+◌, ◌*◌, ◌<◌, ◌≤◌, List, [], sym, ◌∙◌, subst, arith}
 use Rattle.std.specs.Prelude.{ℤ, pos, slice_index_or}
 use mathlib.Core.Logic.{◌⊎◌, inl, inr}
 use Rattle.std.proofs.Math.Nat.{add-mul, mul-le-mul}

@@ -1,5 +1,5 @@
 -- Before any frame every cell is silent.
-use Rattle.std.proofs.Common.{◌≡◌, ℕ, zero, suc, ◌+◌, ◌<◌, ◌≤◌, List, [], ◌∷◌, refl, ap, sym, ◌∙◌, arith}
+use Rattle.std.proofs.Common.{◌≡◌, ℕ, zero, suc, List, [], refl, ap, sym, ◌∙◌}
 use Rattle.std.specs.Prelude.{replicate}
 use Rattle.wdf_bounds.specs.HeldWords.{HoldsWords}
 use Rattle.wdf_bounds.specs.Plans.{PlanOf}

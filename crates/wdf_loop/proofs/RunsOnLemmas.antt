@@ -1,13 +1,13 @@
 -- A run that goes on by its slots goes on by what its elements are sent.
-use Rattle.std.proofs.Common.{◌≡◌, ℕ, zero, suc, ◌+◌, ◌*◌, ◌<◌, ◌≤◌, true, List, [], length, map, get_or, refl, ap, sym, ◌∙◌, subst, arith}
+use Rattle.std.proofs.Common.{◌≡◌, ℕ, ◌+◌, ◌*◌, ◌<◌, List, [], length, map, get_or, ap, sym, ◌∙◌, subst, arith}
 use Rattle.std.specs.Prelude.{ℤ, pos, replicate, slice_index_or}
 use Rattle.std.specs.List.{range_with_len}
 use Rattle.std.proofs.lemmas.List.{get_or-map, length-replicate}
 use Rattle.std.proofs.lemmas.List.FromFn.{get_or-range_with_len, length-range_with_len}
-use Rattle.wdf_law.specs.Network.{elements, has_reactance, reactances, source_numbers}
+use Rattle.wdf_law.specs.Network.{elements, has_reactance, source_numbers}
 use Rattle.wdf_law.specs.OutputRule.{scaled_up}
 use Rattle.wdf_law.specs.Run.{at_rest, source_values, states}
-use Rattle.wdf_law.specs.Step.{IsStep, after, sent_in}
+use Rattle.wdf_law.specs.Step.{IsStep, sent_in}
 use Rattle.wdf_law.specs.TreeRules.{HasNumbers}
 use Rattle.wdf_bounds.specs.HeldWords.{IsReached}
 use Rattle.wdf_bounds.specs.Plans.{PlanOf}

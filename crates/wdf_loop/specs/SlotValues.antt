@@ -1,5 +1,5 @@
 -- The value of a slot in a run, as its cells show it.
-use Rattle.std.specs.Prelude.{◌≡◌, ℕ, ℤ, pos, ◌&&◌, ◌==◌, if◌then◌else◌, List, [], ◌∷◌, length, map}
+use Rattle.std.specs.Prelude.{ℕ, ℤ, pos, ◌&&◌, ◌==◌, if◌then◌else◌, List, [], ◌∷◌, length, map}
 use Rattle.std.specs.List.{range_with_len}
 use Rattle.wdf_law.specs.Network.{elements}
 use Rattle.wdf_sched.specs.Meaning.{slot_at}

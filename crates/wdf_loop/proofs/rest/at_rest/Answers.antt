@@ -1,10 +1,9 @@
-use Rattle.std.proofs.Common.{List, replicate, sym, subst}
+use Rattle.std.proofs.Common.{List, sym, subst}
 use Rattle.wdf_law.specs.Network.{Network}
 use Rattle.wdf_bounds.specs.HeldWords.{HoldsWords}
 use Rattle.wdf_loop.specs.declared.cell.Cell.{Cell}
 use Rattle.wdf_loop.specs.Advances.{AllAreAt}
 use Rattle.wdf_loop.proofs.RestLemmas.{all_at_rest}
-use Rattle.wdf_loop.proofs.RunsOnLemmas.{runs_on}
 use Rattle.wdf_loop.proofs.rest.at_rest.Goals as goal
 
 pub returns-clause-rest : goal.returns-clause-rest

@@ -1,4 +1,4 @@
-use Rattle.std.proofs.Common.{rules, ◌≡◌, ℕ, ◌+◌, ◌*◌, ◌<◌, ◌≤◌, ◌^◌, length, sym, subst, arith}
+use Rattle.std.proofs.Common.{rules, ◌≡◌, ℕ, ◌+◌, ◌*◌, ◌<◌, ◌≤◌, length, sym, subst, arith}
 use Rattle.wdf_loop.proofs.PlaceLemmas.{ahead, frame_more, inside, whole}
 use Rattle.wdf_loop.proofs.samples.scale_block.Goals as goal
 
