@@ -1,7 +1,9 @@
 -- The engine as clauses see it: its network and plan, the frames done, and of each run the down waves of the last frame; and how
 -- runs go on.
-use Rattle.std.specs.Prelude.{◌≡◌, ℕ, ◌+◌, ◌*◌, ◌<◌, ◌≤◌, ℤ, pos, List, [], length, map, take, drop, slice_index_or}
+use Rattle.std.specs.Prelude.{◌≡◌, ℕ, ◌+◌, ◌*◌, ◌<◌, ◌≤◌, ℤ, pos, List, [], length, map, take, drop, slice_index_or, refl}
+use Rattle.std.specs.Coded.{Coded, code_by, coded×, coded_ℕ, coded_ℤ, coded_list}
 use Rattle.wdf_law.specs.Network.{Network, elements, reactances, source_numbers}
+use Rattle.wdf_law.specs.NetworkCode.{network_code}
 use Rattle.wdf_law.specs.Step.{Frame, IsStep, after, sent_in}
 use Rattle.wdf_law.specs.Run.{at_rest, states}
 use Rattle.wdf_law.specs.OutputRule.{drive, load_wave}
@@ -46,7 +48,7 @@ pub record IsFresh (a : EngineValue) (n : Network) (plan : PlanOf) (runs : ℕ) 
   pub count : runs_of a ≡ runs
   pub done : a.done ≡ 0
   pub state : (run : ℕ) → run < runs → state_of a run ≡ at_rest n
-  pub downs : (run i : ℕ) → run < runs → sent_at a run i ≡ pos 0
+  pub downs : (run i : ℕ) → run < runs → i < length (elements n) → sent_at a run i ≡ pos 0
 
 -- ---- a block
 
@@ -81,3 +83,28 @@ pub record IsBlock (a b : EngineValue) (count : ℕ) (input output : List ℤ) :
   pub plans : b.plan ≡ a.plan
   pub runs : runs_of b ≡ runs_of a
   pub done : b.done ≡ a.done + count
+
+-- ---- the code that the model of its type wants
+
+abbrev pub PlanParts : Type 0
+PlanParts = ℕ × (ℕ × (ℕ × (ℕ × (ℕ × ℕ))))
+
+abbrev pub EngineParts : Type 0
+EngineParts = Network × (PlanParts × (ℕ × List (List ℤ)))
+
+abbrev pub parts_of : EngineValue → EngineParts
+parts_of a = (a.net, ((a.plan.k, (a.plan.guard, (a.plan.shift, (a.plan.frames, (a.plan.amp, a.plan.bits))))), (a.done, a.downs)))
+
+abbrev pub engine_from : EngineParts → EngineValue
+engine_from p = record {
+  net = p.0;
+  plan = record { k = p.1.0.0; guard = p.1.0.1.0; shift = p.1.0.1.1.0; frames = p.1.0.1.1.1.0; amp = p.1.0.1.1.1.1.0; bits = p.1.0.1.1.1.1.1 };
+  done = p.1.1.0;
+  downs = p.1.1.1;
+}
+
+abbrev pub coded_plan : Coded PlanParts
+coded_plan = coded× coded_ℕ (coded× coded_ℕ (coded× coded_ℕ (coded× coded_ℕ (coded× coded_ℕ coded_ℕ))))
+
+abbrev pub engine_code : Coded EngineValue
+engine_code = code_by EngineParts (coded× network_code (coded× coded_plan (coded× coded_ℕ (coded_list (coded_list coded_ℤ))))) parts_of engine_from (λ _. refl)

@@ -6,6 +6,7 @@ pub mod Engines
 pub mod Feeds
 pub mod Frames
 pub mod Inputs
+pub mod KeptEngines
 pub mod Layouts
 pub mod Leaves
 pub mod Limiting

@@ -29,6 +29,7 @@ mod row;
 mod runs;
 mod samples;
 mod share;
+mod solo;
 mod stage;
 mod step;
 mod sums;
@@ -37,3 +38,4 @@ mod tests;
 mod width;
 
 pub use limited::{Limited, out_sample};
+pub use solo::Solo;

@@ -51,6 +51,7 @@ pub(crate) fn at_rest<const C: usize>(
     requires runs { C ≤ 4 }
     requires fits { Fits schedule.now.net plan.now }
     ensures stages { IfOk result (λ v. length v.items ≡ length layout.now.shares.items) }
+    ensures silent { IfOk result (λ v. v.items ≡ replicate (length layout.now.shares.items) (replicate C silent)) }
     ensures rest { IfOk result (λ v. AllAreAt C schedule.now plan.now 0 layout.now.shares.items layout.now.marks.items layout.now.chains.items layout.now.feeds.items v.items) }
 {
     wdf_bounds::laws::every_word(schedule.net(), plan);
