@@ -1,8 +1,10 @@
-ghost use Rattle.std.specs.Prelude.{◌≡◌, IfOk};
+ghost use Rattle.std.specs.Prelude.{◌≡◌, ◌+◌, ◌*◌, ◌<◌, ◌≤◌, ◌^◌, unsigned_abs, length, All, IfOk};
+ghost use Rattle.wdf_law.specs.Network.{source_numbers};
 ghost use Rattle.wdf_bounds.specs.WordBound.{Fits};
-ghost use Rattle.wdf_loop.specs.Engines.{IsFresh, KeepsPlan};
+ghost use Rattle.wdf_loop.specs.Engines.{IsBlock, IsFresh};
 
 use crate::cell::Cell;
+use crate::group::group_block;
 use crate::layout::{Layout, layout_of};
 use crate::outlet::{Outlet, outlet_of};
 use crate::rest::at_rest;
@@ -64,5 +66,41 @@ impl Solo {
             cells,
             done: 0,
         })
+    }
+    /// Makes the next frames of `samples`, in each one for each source, source 0 first, and gives
+    /// the load wave of each; `values` and `waves` are room for these.
+    ///
+    /// No sample's magnitude is over the plan's `amp`, and no more frames are made than the plan has
+    /// left.
+    pub fn block(
+        &mut self,
+        samples: &[i64],
+        values: &mut [[i64; 1]],
+        waves: &mut [[i64; 1]],
+        output: &mut [i64],
+    )
+        requires few { length waves.old < 2 ^ 60 }
+        requires each { length samples.now ≡ length waves.old * length (source_numbers self.old.net) }
+        requires amplitude { All (λ s. unsigned_abs s ≤ self.old.plan.amp) samples.now }
+        requires values { length values.old ≡ length waves.old * length (source_numbers self.old.net) }
+        requires places { length output.old ≡ length waves.old }
+        requires frames { self.old.done + length waves.old ≤ self.old.plan.frames }
+        ensures { IsBlock self.old self.new (length waves.old) samples.now output.new }
+    {
+        group_block::<1>(
+            &self.schedule,
+            &self.plan,
+            &self.layout,
+            self.outlet,
+            &mut self.cells,
+            self.done,
+            1,
+            0,
+            samples,
+            values,
+            waves,
+            output,
+        );
+        self.done += waves.len() as u32;
     }
 }
