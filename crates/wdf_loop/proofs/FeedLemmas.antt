@@ -107,7 +107,7 @@ feed_none j c = record { fed = refl; under = refl; up = refl; below = refl; raw 
 
 -- ---- so the parts that were fed other values are fed these
 
-fed_nothing : (is : Feed → Bool) (fs : List Feed) → fed_by is fs [] ≡ pos 0
+pub fed_nothing : (is : Feed → Bool) (fs : List Feed) → fed_by is fs [] ≡ pos 0
 fed_nothing is [] = refl
 fed_nothing is (f ∷ fs) = refl
 

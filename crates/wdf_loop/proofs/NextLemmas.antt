@@ -25,7 +25,7 @@ use Rattle.wdf_sched.specs.Schedules.{IsSchedule, ScheduleValue}
 use Rattle.wdf_loop.specs.NextFrames.{IsNext, Stands, next_slots, slots_from, state_in}
 
 -- two functions that agree where a test passes give the numbers that pass it the same
-map-filter : (p : ℕ → Bool) (f g : ℕ → ℤ) (xs : List ℕ) → ((i : ℕ) → p i ≡ true → f i ≡ g i) → map f (filter p xs) ≡ map g (filter p xs)
+pub map-filter : (p : ℕ → Bool) (f g : ℕ → ℤ) (xs : List ℕ) → ((i : ℕ) → p i ≡ true → f i ≡ g i) → map f (filter p xs) ≡ map g (filter p xs)
 map-filter p f g [] same = refl
 map-filter p f g (x ∷ xs) same = by (map-filter p f g xs same) (p x) refl
   where
@@ -34,7 +34,7 @@ map-filter p f g (x ∷ xs) same = by (map-filter p f g xs same) (p x) refl
     by rest false e = rest
 
 -- a reactance is an element
-reactance_below : (n : Network) (i : ℕ) → HasNumbers n → has_reactance (elements n) i ≡ true → i < length (elements n)
+pub reactance_below : (n : Network) (i : ℕ) → HasNumbers n → has_reactance (elements n) i ≡ true → i < length (elements n)
 reactance_below n i numbers h = numbers.below i (kind_among is_reactance (elements n) i h)
 
 -- the same bound on waves, as two crates have it

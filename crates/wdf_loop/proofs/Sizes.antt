@@ -60,3 +60,10 @@ half-of-three k x some h =
     let two : 2 ^ 1 ≤ 2 ^ k = pow-le-pow_right (omega arith) some in
     let least : 2 * x ≤ 2 ^ k * x = mul-le-mul {n₁ = 2} {m₁ = x} {n₂ = 2 ^ k} {m₂ = x} (omega arith) (omega arith) in
     omega arith
+
+-- a sample of 32 bits with 16 more
+pub shifted_fits : (a g : ℕ) → a ≤ 2 ^ 31 → g ≤ 16 → a * 2 ^ g < 2 ^ 63
+shifted_fits a g h k =
+    let scale : 2 ^ g ≤ 2 ^ 16 = pow-le-pow_right (omega arith) k in
+    let both : a * 2 ^ g ≤ 2 ^ 31 * 2 ^ 16 = mul-le-mul h scale in
+    omega arith

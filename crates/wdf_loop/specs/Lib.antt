@@ -2,8 +2,11 @@ pub mod Advances
 pub mod Blocks
 pub mod Cells
 pub mod Chains
+pub mod Engines
 pub mod Feeds
 pub mod Frames
+pub mod Inputs
+pub mod KeptEngines
 pub mod Layouts
 pub mod Leaves
 pub mod Limiting
@@ -14,5 +17,6 @@ pub mod Rows
 pub mod RunCells
 pub mod Runs
 pub mod Shows
+pub mod SlotValues
 pub mod Stages
 pub mod Steps

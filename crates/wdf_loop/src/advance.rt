@@ -1,9 +1,9 @@
 // Runs of a schedule that go on by a block of frames.
 ghost use Rattle.std.specs.Prelude.{◌≡◌, ◌+◌, ◌*◌, ◌≤◌, length};
 ghost use Rattle.wdf_bounds.specs.WordBound.{Fits};
-ghost use Rattle.wdf_loop.specs.Advances.{AllAreAt, AllGoOn, AreInputs, IsOutlet};
+ghost use Rattle.wdf_loop.specs.Advances.{AllAreAt, AllGoOn, IsOutlet};
+ghost use Rattle.wdf_loop.specs.Inputs.{AreAllowed};
 ghost use Rattle.wdf_loop.specs.Layouts.{IsLayout};
-ghost use Rattle.wdf_loop.specs.Shows.{AreSmallValues};
 
 use crate::cell::Cell;
 use crate::layout::Layout;
@@ -14,7 +14,8 @@ use wdf_sched::Schedule;
 
 /// Goes on with as many frames as there are rows of `waves`, which become their load waves: each
 /// frame is the reference step from the state that the one before left. `values` has a row for each
-/// source of each frame, source 0 first, frame after frame. `done` counts the frames.
+/// source of each frame, source 0 first, frame after frame; none is larger than the plan's greatest
+/// sample with its guard bits. `done` counts the frames.
 pub(crate) fn advance<const C: usize>(
     schedule: &Schedule,
     plan: &Plan,
@@ -31,8 +32,7 @@ pub(crate) fn advance<const C: usize>(
     requires stages { length cells.old ≡ length layout.now.shares.items }
     requires outlet { IsOutlet schedule.now layout.now.shares.items layout.now.marks.items outlet }
     requires sources { length values.now ≡ length waves.old * length layout.now.feeds.items }
-    requires small { AreSmallValues C values.now }
-    requires inputs { AreInputs C schedule.now plan.now (length waves.old) layout.now.feeds.items values.now }
+    requires allowed { AreAllowed C plan.now values.now }
     requires frames { done.old + length waves.old ≤ plan.now.frames }
     requires run { AllAreAt C schedule.now plan.now done.old layout.now.shares.items layout.now.marks.items layout.now.chains.items layout.now.feeds.items cells.old }
     ensures run { AllGoOn C schedule.now plan.now done.old (length waves.old) layout.now.shares.items layout.now.marks.items layout.now.chains.items layout.now.feeds.items cells.old values.now cells.new waves.new }

@@ -5,6 +5,7 @@ use Rattle.wdf_law.specs.TreeRules.{HasNumbers}
 use Rattle.wdf_bounds.specs.HeldWords.{HoldsWords}
 use Rattle.wdf_loop.specs.Advances.{root_of}
 use Rattle.wdf_loop.proofs.AdvanceLemmas.{CanGoOn, fitting_words, go_on, lists_moved, lists_of, run_moved}
+use Rattle.wdf_loop.proofs.InputLemmas.{are_inputs, are_small}
 use Rattle.wdf_loop.proofs.advance.advance.Goals as goal
 
 pub block_of-requires : goal.block_of-requires
@@ -30,12 +31,12 @@ block_of-requires g c =
     let lists = lists_moved g.row.C c.args.schedule.now.net.k c.k.result (root_of c.args.layout.now.shares.items) (c.len-root.result - 1) c.args.layout.now.shares.items c.deref.result.now c.args.layout.now.chains.items c.deref-2.result.now
     c.args.layout.now.feeds.items c.deref-3.result.now c.args.outlet (length c.args.waves.now) c.args.cells.now c.args.values.now width root c.deref.ensures.value c.deref-2.ensures.value c.deref-3.ensures.value
     (lists_of c.args.schedule.now c.args.plan.now c.args.done.now (length c.args.waves.now) c.args.layout.now.shares.items c.args.layout.now.marks.items c.args.layout.now.chains.items c.args.layout.now.feeds.items c.args.outlet g.row.C
-    c.args.cells.now c.args.values.now can c.requires.inputs c.requires.run) in
+    c.args.cells.now c.args.values.now can (are_inputs g.row.C c.args.schedule.now c.args.plan.now (length c.args.waves.now) c.args.layout.now.feeds.items c.args.values.now c.requires.allowed) c.requires.run) in
     let sources : length c.args.values.now ≡ length c.args.waves.now * length c.deref-3.result.now = c.requires.sources ∙ (λ i. length c.args.waves.now * length (sym c.deref-3.ensures.value i)) in
     let runs : g.row.C ≤ 4 = c.requires.runs in
     let one : g.row.C * 56 < 9223372036854775808 = omega arith in
     let two : g.row.C * 8 < 9223372036854775808 = omega arith in
-    (one, (two, (c.k.ensures.range.0, (c.k.ensures.range.1, (runs, (stages, (lists.each, (lists.whole, (lists.row, (lists.signs, (sources, (lists.places, (lists.field, (lists.inside, (c.requires.small, lists.run)))))))))))))))
+    (one, (two, (c.k.ensures.range.0, (c.k.ensures.range.1, (runs, (stages, (lists.each, (lists.whole, (lists.row, (lists.signs, (sources, (lists.places, (lists.field, (lists.inside, (are_small g.row.C c.args.plan.now c.args.values.now c.rules-2.ensures c.requires.allowed, lists.run)))))))))))))))
 
 pub returns-clause-run : goal.returns-clause-run
 returns-clause-run g c =
@@ -54,7 +55,7 @@ returns-clause-run g c =
       frames = c.requires.frames;
     } in
     go_on c.args.schedule.now c.args.plan.now c.args.done.now (length c.args.waves.now) c.args.layout.now.shares.items c.args.layout.now.marks.items c.args.layout.now.chains.items c.args.layout.now.feeds.items c.args.outlet g.row.C
-    c.args.cells.now c.block_of.new.cells c.args.values.now c.block_of.new.waves can c.requires.inputs
+    c.args.cells.now c.block_of.new.cells c.args.values.now c.block_of.new.waves can (are_inputs g.row.C c.args.schedule.now c.args.plan.now (length c.args.waves.now) c.args.layout.now.feeds.items c.args.values.now c.requires.allowed)
     (run_moved g.row.C c.args.schedule.now.net.k c.k.result (root_of c.args.layout.now.shares.items) (c.len-root.result - 1) c.args.layout.now.shares.items c.deref.result.now c.args.layout.now.chains.items c.deref-2.result.now
     c.args.layout.now.feeds.items c.deref-3.result.now c.args.outlet (length c.args.waves.now) c.args.cells.now c.block_of.new.cells c.args.values.now c.block_of.new.waves width root c.deref.ensures.value c.deref-2.ensures.value
     c.deref-3.ensures.value c.block_of.ensures)
