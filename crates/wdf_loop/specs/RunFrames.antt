@@ -1,11 +1,13 @@
 -- How one of several runs goes on by frames: what it is driven by, what it puts out, and what is noted of it.
-use Rattle.std.specs.Prelude.{◌≡◌, ℕ, ◌+◌, ◌*◌, ◌<◌, ℤ, pos, List, length, map, take, drop, slice_index_or}
+use Rattle.std.specs.Prelude.{◌≡◌, ℕ, ◌+◌, ◌*◌, ◌<◌, ◌≤◌, ℤ, pos, unsigned_abs, List, length, map, take, drop, slice_index_or}
 use Rattle.wdf_law.specs.Network.{Network, elements, source_numbers}
 use Rattle.wdf_law.specs.Step.{Frame, IsStep, after, sent_in}
 use Rattle.wdf_law.specs.Run.{states}
 use Rattle.wdf_law.specs.OutputRule.{drive, load_wave}
 use Rattle.wdf_bounds.specs.Plans.{PlanOf}
+use Rattle.wdf_bounds.specs.WordBound.{word_limit}
 use Rattle.wdf_energy.specs.Accounts.{AccountOf, noted}
+use Rattle.wdf_sched.specs.Meaning.{Starts}
 
 -- Of whole frames, in each of which the samples of one run stand behind those of the other, those of a run in a frame: one for
 -- each source, source 0 first.
@@ -20,14 +22,16 @@ pub record IsFrame (n : Network) (plan : PlanOf) (samples zs behind : List ℤ) 
   pub state : behind ≡ after n frame
 
 -- One of so many runs goes on by so many frames from the state zs to ys, each from the state that the one before left, driven by
--- its samples. The last sends the elements these waves. An account has each frame noted.
-pub record RunsOn (n : Network) (plan : PlanOf) (runs count : ℕ) (input output : List ℤ) (run : ℕ) (zs ys : List ℤ) (last : ℕ → ℤ) (opens closes : AccountOf) : Type 0 where
+-- its samples. In the last the elements reflect and are sent these waves. An account has each frame noted.
+pub record RunsOn (n : Network) (plan : PlanOf) (runs count : ℕ) (input output : List ℤ) (run : ℕ) (zs ys : List ℤ) (ups last : ℕ → ℤ) (opens closes : AccountOf) : Type 0 where
   -- the states by how many frames are done
   pub state : ℕ → List ℤ
   pub begins : state 0 ≡ zs
   pub frames : (f : ℕ) → f < count
       → IsFrame n plan (samples_of runs (length (source_numbers n)) run f input) (state f) (state (f + 1)) (slice_index_or output (f * runs + run) (pos 0))
   pub ends : state count ≡ ys
+  pub words : (f : ℕ) → f < count → unsigned_abs (slice_index_or output (f * runs + run) (pos 0)) ≤ word_limit plan
+  pub starts : (f : ℕ) → f < count → f + 1 ≡ count → Starts n (states n (state f)) (drive plan.guard n (samples_of runs (length (source_numbers n)) run f input)) ups
   pub sent : (f : ℕ) (h : f < count) → f + 1 ≡ count → (i : ℕ) → i < length (elements n) → last i ≡ sent_in n (frames f h).frame i
   -- the account by how many frames are noted
   pub account : ℕ → AccountOf

@@ -7,7 +7,7 @@ ghost use Rattle.wdf_loop.specs.RunAccounts.{HoldRuns, KeepsAccounts};
 ghost use Rattle.wdf_loop.specs.Layouts.{IsLayout};
 ghost use Rattle.wdf_loop.specs.Parts.{HasParts, IsOutlet};
 ghost use Rattle.wdf_loop.specs.RunFrames.{RunsOn};
-ghost use Rattle.wdf_loop.specs.SlotValues.{sent_by, state_by};
+ghost use Rattle.wdf_loop.specs.SlotValues.{sent_by, state_by, value_in};
 
 use crate::advance::advance;
 use crate::cell::Cell;
@@ -64,7 +64,7 @@ pub(crate) fn group_block<const C: usize>(
     ensures at { AllAreAt C schedule.now plan.now (done + count) layout.now.shares.items layout.now.marks.items layout.now.chains.items layout.now.feeds.items cells.new }
     ensures on { (c : ℕ) → c < C → RunsOn schedule.now.net plan.now all count samples.now output.new (first + c)
         (state_by schedule.now layout.now.shares.items layout.now.marks.items cells.old c) (state_by schedule.now layout.now.shares.items layout.now.marks.items cells.new c)
-        (sent_by schedule.now layout.now.shares.items layout.now.marks.items cells.new c) (account_at ledger.old (first + c)) (account_at ledger.new (first + c)) }
+        (value_in layout.now.shares.items layout.now.marks.items cells.new c) (sent_by schedule.now layout.now.shares.items layout.now.marks.items cells.new c) (account_at ledger.old (first + c)) (account_at ledger.new (first + c)) }
     ensures others { (f run : ℕ) → run < all → (run < first) ⊎ (first + C ≤ run)
         → slice_index_or output.new (f * all + run) (pos 0) ≡ slice_index_or output.old (f * all + run) (pos 0) }
     ensures ledger { HoldRuns C first schedule.now plan.now (done + count) layout.now.shares.items layout.now.marks.items cells.new ledger.new }
