@@ -1,20 +1,19 @@
 -- The engine as clauses see it: its schedule and plan, the frames done, and of each run the value of every slot; and how runs go
 -- on.
-use Rattle.std.specs.Prelude.{◌≡◌, ℕ, ◌+◌, ◌*◌, ◌<◌, ◌≤◌, ℤ, pos, List, [], length, map, take, drop, slice_index_or, refl}
+use Rattle.std.specs.Prelude.{◌≡◌, ℕ, ◌+◌, ◌*◌, ◌<◌, ◌≤◌, ℤ, pos, List, [], length, map, slice_index_or, refl}
 use Rattle.std.specs.Coded.{Coded, code_by, coded×, coded_ℕ, coded_ℤ, coded_list}
-use Rattle.wdf_law.specs.Network.{Network, elements, reactances, source_numbers, unit_of}
-use Rattle.wdf_law.specs.Step.{Frame, IsStep, after, sent_in}
-use Rattle.wdf_law.specs.Run.{at_rest, states}
-use Rattle.wdf_law.specs.OutputRule.{drive, load_wave}
+use Rattle.wdf_law.specs.Network.{reactances, source_numbers, unit_of}
+use Rattle.wdf_law.specs.Run.{at_rest}
 use Rattle.wdf_bounds.specs.HeldWords.{IsReached}
 use Rattle.wdf_bounds.specs.Plans.{PlanOf}
 use Rattle.wdf_bounds.specs.WordBound.{Fits}
-use Rattle.wdf_energy.specs.Accounts.{AccountOf, LedgerOf, account_at, noted}
+use Rattle.wdf_energy.specs.Accounts.{LedgerOf, account_at}
 use Rattle.wdf_energy.specs.LedgerLaws.{HoldsFrames}
 use Rattle.wdf_sched.specs.Meaning.{slot_at}
 use Rattle.wdf_sched.specs.Operations.{HoldAll}
 use Rattle.wdf_sched.specs.ScheduleCode.{schedule_code}
 use Rattle.wdf_sched.specs.Schedules.{ScheduleValue}
+use Rattle.wdf_loop.specs.RunFrames.{RunsOn}
 
 pub record EngineValue : Type 0 where
   pub schedule : ScheduleValue
@@ -59,41 +58,11 @@ pub record IsFresh (a : EngineValue) (s : ScheduleValue) (plan : PlanOf) (runs :
 
 -- ---- a block
 
--- Of whole frames, in each of which the samples of one run stand behind those of the other, those of a run in a frame: one for
--- each source, source 0 first.
-abbrev pub samples_of : (runs sources run frame : ℕ) → List ℤ → List ℤ
-samples_of runs sources run frame input = take sources (drop ((frame * runs + run) * sources) input)
-
 -- So many whole frames of samples, and a place for a load wave of each run in each frame; the plan has as many left.
 pub record AreFrames (a : EngineValue) (count : ℕ) (input output : List ℤ) : Type 0 where
   pub samples : length input ≡ count * (runs_of a * length (source_numbers a.schedule.net))
   pub places : length output ≡ count * runs_of a
   pub left : a.done + count ≤ a.plan.frames
-
--- a frame of a run, from the state zs to the state behind it: the step driven by the samples, with the load wave w
-pub record IsFrame (n : Network) (plan : PlanOf) (samples zs behind : List ℤ) (w : ℤ) : Type 0 where
-  pub frame : Frame
-  pub step : IsStep n (states n zs) (drive plan.guard n samples) frame
-  pub wave : w ≡ load_wave n frame
-  pub state : behind ≡ after n frame
-
--- One of so many runs goes on by so many frames, each from the state that the one before left, driven by its samples: from the
--- state zs to the state ys, where the elements were sent the waves `last`. Its account has each frame noted.
-pub record RunsOn (n : Network) (plan : PlanOf) (runs count : ℕ) (input output : List ℤ) (run : ℕ) (zs ys : List ℤ) (last : ℕ → ℤ) (opens closes : AccountOf) : Type 0 where
-  -- the states by how many frames are done
-  pub state : ℕ → List ℤ
-  pub begins : state 0 ≡ zs
-  pub frames : (f : ℕ) → f < count
-      → IsFrame n plan (samples_of runs (length (source_numbers n)) run f input) (state f) (state (f + 1)) (slice_index_or output (f * runs + run) (pos 0))
-  pub ends : state count ≡ ys
-  -- what the last frame sent
-  pub sent : (f : ℕ) (h : f < count) → f + 1 ≡ count → (i : ℕ) → i < length (elements n) → last i ≡ sent_in n (frames f h).frame i
-  -- the accounts by how many frames are done
-  pub account : ℕ → AccountOf
-  pub opened : account 0 ≡ opens
-  pub notes : (f : ℕ) (h : f < count)
-      → account (f + 1) ≡ noted n (map (drive plan.guard n (samples_of runs (length (source_numbers n)) run f input)) (source_numbers n)) (sent_in n (frames f h).frame) (account f)
-  pub closed : account count ≡ closes
 
 -- the ledger is of the engine's network, and its accounts hold the frames of the runs
 pub record HoldsLedger (a : EngineValue) (l : LedgerOf) : Type 0 where
@@ -104,7 +73,7 @@ pub record HoldsLedger (a : EngineValue) (l : LedgerOf) : Type 0 where
 -- each run of an engine goes on so, with its account of the ledger, and nothing else is changed
 pub record IsBlock (a b : EngineValue) (count : ℕ) (input output : List ℤ) (l m : LedgerOf) : Type 0 where
   pub on : (run : ℕ) → run < runs_of a
-      → RunsOn a.schedule.net a.plan (runs_of a) count input output run (state_of a run) (state_of b run) (sent_at b run) (account_at l run) (account_at m run)
+      → RunsOn a.schedule.net a.plan (runs_of a) count input output run (state_of a run) (state_of b run) (slot_of b run) (sent_at b run) (account_at l run) (account_at m run)
   pub schedules : b.schedule ≡ a.schedule
   pub plans : b.plan ≡ a.plan
   pub runs : runs_of b ≡ runs_of a

@@ -1,13 +1,10 @@
 -- The value of a slot in a run, as its cells show it.
-use Rattle.std.specs.Prelude.{ℕ, ℤ, pos, ◌&&◌, ◌==◌, if◌then◌else◌, List, [], ◌∷◌, length, map}
-use Rattle.std.specs.List.{range_with_len}
-use Rattle.wdf_law.specs.Network.{elements}
+use Rattle.std.specs.Prelude.{ℕ, ℤ, pos, ◌&&◌, ◌==◌, if◌then◌else◌, List, [], ◌∷◌, map}
+use Rattle.wdf_law.specs.Network.{reactances}
 use Rattle.wdf_sched.specs.Meaning.{slot_at}
 use Rattle.wdf_sched.specs.Schedules.{ScheduleValue}
 use Rattle.wdf_loop.specs.declared.cell.Cell.{Cell}
 use Rattle.wdf_loop.specs.declared.mark.Mark.{Mark}
-use Rattle.wdf_loop.specs.declared.run_group.RunGroup.{RunGroup}
-use Rattle.wdf_loop.specs.declared.run_group.RunGroup.TheVariants.{None, One, Two, Four}
 use Rattle.wdf_loop.specs.declared.share.Share.{Share}
 use Rattle.wdf_loop.specs.RunCells.{cell_in}
 
@@ -28,22 +25,9 @@ value_in (s ∷ shares) [] cells c i = pos 0
 value_in (s ∷ shares) (k ∷ marks) [] c i = pos 0
 value_in (s ∷ shares) (k ∷ marks) (row ∷ cells) c i = value_or (value_in shares marks cells c i) s k (cell_in row c) i
 
--- what the elements were sent last, by their numbers
-abbrev pub downs_in : ScheduleValue → List Share → List Mark → List (List Cell) → ℕ → List ℤ
-downs_in s shares marks cells c = map (λ (i : ℕ). value_in shares marks cells c (slot_at s.down_slots i)) (range_with_len 0 (length (elements s.net)))
+-- what the element i was sent last, and the state: what the reactances were, in netlist order
+abbrev pub sent_by : ScheduleValue → List Share → List Mark → List (List Cell) → ℕ → ℕ → ℤ
+sent_by s shares marks cells c i = value_in shares marks cells c (slot_at s.down_slots i)
 
--- ---- all slots
-
--- what the slots hold for the run c, by their numbers
-abbrev pub slots_in : ScheduleValue → List Share → List Mark → List (List Cell) → ℕ → List ℤ
-slots_in s shares marks cells c = map (value_in shares marks cells c) (range_with_len 0 s.slot_count)
-
--- and for each of so many runs
-abbrev pub all_slots_in : ScheduleValue → List Share → List Mark → List (List Cell) → ℕ → List (List ℤ)
-all_slots_in s shares marks cells runs = map (slots_in s shares marks cells) (range_with_len 0 runs)
-
-abbrev pub group_slots : ScheduleValue → List Share → List Mark → RunGroup → List (List ℤ)
-group_slots s shares marks None = []
-group_slots s shares marks (One cells values waves) = all_slots_in s shares marks cells.items 1
-group_slots s shares marks (Two cells values waves) = all_slots_in s shares marks cells.items 2
-group_slots s shares marks (Four cells values waves) = all_slots_in s shares marks cells.items 4
+abbrev pub state_by : ScheduleValue → List Share → List Mark → List (List Cell) → ℕ → List ℤ
+state_by s shares marks cells c = map (sent_by s shares marks cells c) (reactances s.net)

@@ -21,8 +21,11 @@ mod layout;
 mod leaf;
 mod limited;
 mod mark;
+mod notes;
 mod outlet;
 mod outputs;
+mod part;
+mod parts;
 mod passes;
 mod place;
 mod rest;
@@ -36,7 +39,8 @@ mod step;
 mod sums;
 #[cfg(test)]
 mod tests;
+mod watch;
 mod width;
 
-pub use limited::{Limited, out_sample};
 pub use engine::Engine;
+pub use limited::{Limited, out_sample};
