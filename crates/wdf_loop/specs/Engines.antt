@@ -79,6 +79,7 @@ pub record IsBlock (a b : EngineValue) (count : ℕ) (input output : List ℤ) (
   pub runs : runs_of b ≡ runs_of a
   pub done : b.done ≡ a.done + count
   pub ledger : HoldsLedger b m
+  pub still : count ≡ 0 → b.slots ≡ a.slots
 
 -- ---- the code that the model of its type wants
 

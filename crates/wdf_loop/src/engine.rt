@@ -3,8 +3,10 @@ ghost use Rattle.wdf_law.specs.Network.{elements};
 ghost use Rattle.wdf_bounds.specs.WordBound.{Fits};
 ghost use Rattle.wdf_loop.specs.Engines.{AreFrames, HoldsLedger, IsBlock, IsFresh, KeepsPlan, runs_of, sent_at, slot_of};
 
-use crate::layout::{Layout, layout_of};
-use crate::run_group::RunGroup;
+use crate::groups::Groups;
+use crate::pieces::pieces;
+use crate::place::place_shown;
+use crate::setting::Setting;
 use std::alloc::{AllocError, Global};
 use std::marker::Model;
 use wdf_bounds::Plan;
@@ -18,13 +20,8 @@ use wdf_sched::Schedule;
 /// slots of each run hold what each operation of the schedule writes.
 #[derive(Drop)]
 pub struct Engine {
-    schedule: Schedule,
-    plan: Plan,
-    layout: Layout,
-    // The runs, 4, 2 or 1 at once.
-    first: RunGroup,
-    second: RunGroup,
-    third: RunGroup,
+    setting: Setting,
+    groups: Groups,
     done: u32,
 }
 
@@ -35,10 +32,11 @@ impl Model for Engine {
 
     ghost coded = { engine_code };
 
-    ghost use Rattle.std.specs.Prelude.{◌++◌};
-    ghost use Rattle.wdf_loop.specs.SlotValues.{group_slots};
+    ghost use Rattle.wdf_loop.specs.KeptEngines.{IsEngine, engine_of};
 
-    ghost view = { λ a. record { schedule = a.schedule; plan = a.plan; done = a.done; slots = group_slots a.schedule a.layout.shares.items a.layout.marks.items a.first ++ group_slots a.schedule a.layout.shares.items a.layout.marks.items a.second ++ group_slots a.schedule a.layout.shares.items a.layout.marks.items a.third } };
+    ghost view = { λ a. engine_of a.setting a.groups a.done };
+
+    ghost invariant = { λ a. IsEngine a.setting a.groups a.done };
 }
 
 impl Engine {
@@ -58,14 +56,13 @@ impl Engine {
         requires few { runs ≤ 8 }
         ensures { IfOk result (λ a. IsFresh a schedule plan runs) }
     {
-        let layout = layout_of(alloc, &schedule)?;
+        let setting = Setting::new(alloc, schedule, plan)?;
+        let groups = Groups::at_rest(alloc, &setting, runs)?;
+        setting.schedule.rules();
+        wdf_law::laws::numbers(setting.schedule.net());
         Ok(Engine {
-            schedule,
-            plan,
-            layout,
-            first: RunGroup::None,
-            second: RunGroup::None,
-            third: RunGroup::None,
+            setting,
+            groups,
             done: 0,
         })
     }
@@ -84,13 +81,21 @@ impl Engine {
         requires ledger { HoldsLedger self.old ledger.old }
         ensures { (count : ℕ) → AreFrames self.old count input.now output.old → IsBlock self.old self.new count input.now output.new ledger.old ledger.new }
     {
+        pieces(
+            &self.setting,
+            &mut self.groups,
+            &mut self.done,
+            input,
+            output,
+            ledger,
+        );
     }
 
     /// The schedule that is carried out.
     pub fn schedule(&self) -> &Schedule
         ensures { result.now ≡ self.now.schedule }
     {
-        &self.schedule
+        &self.setting.schedule
     }
 
     /// How many frames are done.
@@ -108,7 +113,9 @@ impl Engine {
         requires slot { slot < self.now.schedule.slot_count }
         ensures { result ≡ slot_of self.now run slot }
     {
-        0
+        let layout = &self.setting.layout;
+        let place = place_shown(&layout.shares, &layout.marks, slot);
+        self.groups.value(run, place, layout.shares.len())
     }
 
     /// The up and the down wave of an element in the last frame of a run; each is 0 before the
@@ -119,7 +126,7 @@ impl Engine {
         ensures up { result.0 ≡ slot_of self.now run elem }
         ensures down { result.1 ≡ sent_at self.now run elem }
     {
-        let leaf = self.schedule.leaf_slots(elem);
+        let leaf = self.setting.schedule.leaf_slots(elem);
         (self.slot(run, leaf.up), self.slot(run, leaf.down))
     }
 
@@ -129,6 +136,7 @@ impl Engine {
     pub fn rules(&self)
         ensures { KeepsPlan self.now }
     {
-        let _ = &self.done;
+        self.setting.schedule.rules();
+        wdf_law::laws::numbers(self.setting.schedule.net());
     }
 }
