@@ -86,7 +86,6 @@ pub(crate) fn group_block<const C: usize>(
         count,
         values,
     );
-    let mut counted = done;
     advance::<C>(
         schedule,
         plan,
@@ -96,7 +95,7 @@ pub(crate) fn group_block<const C: usize>(
         count,
         values,
         waves,
-        &mut counted,
+        done,
     );
     give_block::<C>(
         waves,
