@@ -158,9 +158,10 @@ impl Account {
         requires reactive { AreWalked (length downs.now) reactive.now }
         requires waves { length waves.now ≡ count * length absorbing.now }
         requires incident { self.old.incident + squares_over (every_row 1 values.now column 0) (length values.now) < 2 ^ 124 }
-        requires squares { (i : ℕ) → i < length absorbing.now
+        requires squares { (i : ℕ) → i < length absorbing.now → i < length self.old.squares
             → slice_index_or self.old.squares i 0 + squares_over (every_row (length absorbing.now) waves.now column i) count < 2 ^ 124 }
         ensures incident { self.new.incident ≡ self.old.incident + squares_over (every_row 1 values.now column 0) (length values.now) }
+        ensures places { length self.new.squares ≡ length self.old.squares }
         ensures squares { (i : ℕ) → i < length absorbing.now
             → slice_index_or self.new.squares i 0 ≡ slice_index_or self.old.squares i 0 + squares_over (every_row (length absorbing.now) waves.now column i) count }
         ensures state { take (length reactive.now) self.new.state ≡ map (wave_at downs.now) (elems reactive.now) }

@@ -134,8 +134,7 @@ impl Ledger {
         ensures account { (sent : ℕ → ℕ → ℤ) → HaveSent self.old.net count sent waves.now column → AreLast self.old.net count sent (wave_at downs.now)
             → NotesOver self.old.net count (frame_column (length (source_numbers self.old.net)) values.now column) sent (account_at self.old channel) (account_at self.new channel) }
     {
-        let account = &mut self.accounts[channel];
-        account.note_block::<C>(
+        self.accounts[channel].note_block::<C>(
             &self.absorbing,
             &self.reactive,
             column,
