@@ -105,14 +105,14 @@ pub block-account : (l : LedgerOf) (n : Network) (absorbing reactive : List Port
     → NotesOver l.net count (by l.net values column) sent (account_at l channel) (account_at (with n absorbing reactive accounts channel b) channel)
 block-account l n absorbing reactive accounts channel a b values waves downs column count seen rules here is long some all incident squares state =
     subst (λ (m : LedgerOf). (sent : ℕ → ℕ → ℤ) → HaveSent m.net count sent waves column → AreLast m.net count sent (wave_at downs)
-        → NotesOver m.net count (by m.net values column) sent (account_at m channel) (account_at (with n absorbing reactive accounts channel b) channel)) seen
+    → NotesOver m.net count (by m.net values column) sent (account_at m channel) (account_at (with n absorbing reactive accounts channel b) channel)) seen
     (λ sent are last.
-        subst (NotesOver n count (by n values column) sent (account_at (ledger n absorbing reactive accounts) channel)) (sym (account-now n absorbing reactive accounts channel b inside))
-        (subst (λ (x : AccountOf). NotesOver n count (by n values column) sent x (shown absorbing reactive b)) (sym (account-is n absorbing reactive accounts channel a inside is))
-        (block-noted n values waves column (length (source_numbers n)) count sent (wave_at downs) (shown absorbing reactive a) (shown absorbing reactive b) some
-        (subst (λ (m : LedgerOf). length values ≡ count * length (source_numbers m.net)) (sym seen) all)
-        (shown-few n absorbing reactive a rules) alike are last incident (λ i below. entry i below)
-        (state ∙ ap (map (wave_at downs)) (ap elems rules.reactive_ports ∙ elems-at n (reactances n))))))
+    subst (NotesOver n count (by n values column) sent (account_at (ledger n absorbing reactive accounts) channel)) (sym (account-now n absorbing reactive accounts channel b inside))
+    (subst (λ (x : AccountOf). NotesOver n count (by n values column) sent x (shown absorbing reactive b)) (sym (account-is n absorbing reactive accounts channel a inside is))
+    (block-noted n values waves column (length (source_numbers n)) count sent (wave_at downs) (shown absorbing reactive a) (shown absorbing reactive b) some
+    (subst (λ (m : LedgerOf). length values ≡ count * length (source_numbers m.net)) (sym seen) all)
+    (shown-few n absorbing reactive a rules) alike are last incident (λ i below. entry i below)
+    (state ∙ ap (map (wave_at downs)) (ap elems rules.reactive_ports ∙ elems-at n (reactances n))))))
   where
     inside : channel < length accounts
     inside =

@@ -18,9 +18,9 @@ note_block-requires g c =
     let incident = block-incident c.args.self.now c.self.inside.net c.self.inside.absorbing.items c.self.inside.reactive.items c.self.inside.accounts.items c.args.channel a
     c.args.values.now c.args.waves.now c.args.column c.args.count c.self.view_is c.requires.channel c.index_mut.ensures.value c.requires.values c.requires.room in
     let squares = subst (λ (ports : List Port). (i : ℕ) → i < length ports → i < length a.squares
-        → get_or a.squares i 0 + squares_over (every_row (length ports) c.args.waves.now c.args.column i) c.args.count < 2 ^ 124) (sym c.deref.ensures.value)
+    → get_or a.squares i 0 + squares_over (every_row (length ports) c.args.waves.now c.args.column i) c.args.count < 2 ^ 124) (sym c.deref.ensures.value)
     (λ i below inside. block-squares c.args.self.now c.self.inside.net c.self.inside.absorbing.items c.self.inside.reactive.items c.self.inside.accounts.items c.args.channel a
-        c.args.values.now c.args.waves.now c.args.column c.args.count i c.self.view_is c.self.invariant c.requires.channel c.index_mut.ensures.value c.requires.room below inside) in
+    c.args.values.now c.args.waves.now c.args.column c.args.count i c.self.view_is c.self.invariant c.requires.channel c.index_mut.ensures.value c.requires.room below inside) in
     (omega arith, (c.requires.runs, (c.requires.column, (few, (walked, (rows, (incident, squares)))))))
 
 pub returns-clause-others : goal.returns-clause-others
