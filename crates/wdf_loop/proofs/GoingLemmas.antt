@@ -63,7 +63,8 @@ module _ (runs first : ℕ) (s : ScheduleValue) (plan : PlanOf) (done count : �
     pub loads_small : (every absorbing : List Part) (o : Outlet) (width : ℕ) → HasParts s (root_of shares) marks every absorbing → IsOutlet s.net o → width ≡ length (absorbing_numbers s.net)
         → (f c : ℕ) → f < count → c < runs → unsigned_abs (watched_in width waves o.place f c) ≤ 2 ^ 60
     loads_small every absorbing o width parts outlet is f c h small =
-        let most : 2 ^ (60 - plan.k) ≤ 2 ^ 60 = pow-le-pow_right (omega arith) (omega arith) in
+        let least : 60 - plan.k ≤ 60 = omega arith in
+        let most : 2 ^ (60 - plan.k) ≤ 2 ^ 60 = pow-le-pow_right (omega arith) least in
         let own = load_small s plan done count shares marks chains feeds cells behind rows waves c (going c small) every absorbing o parts outlet f h in
         subst (λ (n : ℕ). unsigned_abs (watched_in n waves o.place f c) ≤ 2 ^ 60) (sym is) (omega (arith, most, own))
 

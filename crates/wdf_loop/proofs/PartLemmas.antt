@@ -1,10 +1,10 @@
 -- The parts of stages that are elements.
-use Rattle.std.proofs.Common.{◌≡◌, ℕ, zero, suc, ◌+◌, ◌<◌, ◌≤◌, Bool, true, false, cond, List, [], ◌∷◌, ◌++◌, length, map, refl, ap, sym, ◌∙◌, subst, arith}
+use Rattle.std.proofs.Common.{◌≡◌, ℕ, zero, suc, ◌+◌, ◌<◌, ◌≤◌, Bool, true, false, cond, List, [], ◌∷◌, ◌++◌, length, get_or, map, refl, ap, sym, ◌∙◌, subst, arith}
 use Rattle.std.specs.Prelude.{ℤ, filter, slice_index_or}
 use Rattle.std.specs.List.{range_with_len}
 use mathlib.Core.Logic.{◌⊎◌, inl, inr}
 use Rattle.std.proofs.lemmas.Bool.{cases_lt}
-use Rattle.std.proofs.lemmas.List.{append-nil, get_or-map, get_or_append_left, get_or_at, length-append, length-map, map-append}
+use Rattle.std.proofs.lemmas.List.{append-nil, get_or-map, get_or_default, get_or_append_left, get_or_at, length-append, length-map, map-append}
 use Rattle.std.proofs.lemmas.List.Elements.{All-filter, All-get_or}
 use Rattle.std.proofs.lemmas.List.FromFn.{filter_of_map_range_with_len_more}
 use Rattle.wdf_law.specs.Network.{Network, absorbing_numbers, elements, has_absorbing}
@@ -82,6 +82,9 @@ passing_more at has n parts next before here is =
     ∙ ((λ t. before t ++ at n ∷ [])
     ∙ sym (ap (map at) (filter_more has n ∙ ap (λ (b : Bool). filter has (range_with_len 0 n) ++ cond b (n ∷ []) []) here)
     ∙ map-append at (filter has (range_with_len 0 n)) (n ∷ [])))
+
+pub read_part : (every parts next : List Part) (number : ℕ) (d : Part) → number < length every → next ≡ parts ++ get_or every number d ∷ [] → next ≡ parts ++ part_at every number ∷ []
+read_part every parts next number d inside is = is ∙ ap (λ (p : Part). parts ++ p ∷ []) (get_or_default every number d (record { stage = 0; beside = false }) inside)
 
 pub passing_same : (at : ℕ → Part) (has : ℕ → Bool) (n : ℕ) (parts : List Part) → parts ≡ map at (filter has (range_with_len 0 n)) → has n ≡ false
     → parts ≡ map at (filter has (range_with_len 0 (n + 1)))
