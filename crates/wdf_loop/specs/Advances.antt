@@ -1,5 +1,5 @@
 -- Runs of a schedule that go on by a block of frames.
-use Rattle.std.specs.Prelude.{◌≡◌, ℕ, ◌+◌, ◌-◌, ◌*◌, ◌<◌, ◌≤◌, ℤ, List, [], length, slice_index_or}
+use Rattle.std.specs.Prelude.{◌≡◌, ℕ, ◌+◌, ◌-◌, ◌<◌, ◌≤◌, ℤ, List, length}
 use Rattle.wdf_law.specs.Network.{absorbing_numbers}
 use Rattle.wdf_law.specs.Run.{source_values}
 use Rattle.wdf_bounds.specs.HeldWords.{IsInput}
@@ -14,8 +14,7 @@ use Rattle.wdf_loop.specs.declared.mark.Mark.{Mark}
 use Rattle.wdf_loop.specs.declared.share.Share.{Share}
 use Rattle.wdf_loop.specs.Blocks.{frame_values}
 use Rattle.wdf_loop.specs.NextFrames.{IsNext, Stands}
-use Rattle.wdf_loop.specs.Parts.{absorbing_at}
-use Rattle.wdf_loop.specs.RunCells.{wave_in}
+use Rattle.wdf_loop.specs.Parts.{absorbing_at, watched_in}
 use Rattle.wdf_loop.specs.Shows.{AllShow, AreFed}
 
 -- the root is the last stage
@@ -37,7 +36,7 @@ pub record GoesOn (s : ScheduleValue) (plan : PlanOf) (done count : ℕ) (shares
   pub begins : slots 0 ≡ before
   pub next : (f : ℕ) → f < count → IsNext s plan (done + f) (frame_values (length feeds) rows f c) (slots f) (slots (f + 1))
   pub sent : (f i : ℕ) → f < count → i < length (absorbing_numbers s.net)
-      → wave_in (slice_index_or waves (f * length (absorbing_numbers s.net) + i) []) c ≡ slots (f + 1) (slot_at s.down_slots (absorbing_at s.net i))
+      → watched_in (length (absorbing_numbers s.net)) waves i f c ≡ slots (f + 1) (slot_at s.down_slots (absorbing_at s.net i))
   pub stands : Stands s plan (done + count) (slots count)
   pub shows : AllShow (root_of shares) shares marks (slots count) cells c
   pub values : List ℤ

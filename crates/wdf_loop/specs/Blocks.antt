@@ -1,5 +1,5 @@
 -- A block of frames of several runs over one layout.
-use Rattle.std.specs.Prelude.{◌≡◌, ℕ, ◌+◌, ◌*◌, ◌<◌, ◌≤◌, ◌^◌, true, ℤ, List, [], length, take, drop, slice_index_or}
+use Rattle.std.specs.Prelude.{◌≡◌, ℕ, ◌+◌, ◌*◌, ◌<◌, ◌≤◌, ◌^◌, true, ℤ, List, length, take, drop, slice_index_or}
 use Rattle.wdf_law.specs.Network.{unit_of}
 use Rattle.wdf_sched.specs.Operations.{Slots}
 use Rattle.wdf_sched.specs.Schedules.{ScheduleValue}
@@ -12,8 +12,7 @@ use Rattle.wdf_loop.specs.declared.mark.Mark.{Mark}
 use Rattle.wdf_loop.specs.declared.part.Part.{Part}
 use Rattle.wdf_loop.specs.declared.share.Share.{Share}
 use Rattle.wdf_loop.specs.Layouts.{IsLayout, mark_at, share_at}
-use Rattle.wdf_loop.specs.Parts.{part_at, sent_slot}
-use Rattle.wdf_loop.specs.RunCells.{wave_in}
+use Rattle.wdf_loop.specs.Parts.{part_at, sent_slot, watched_in}
 use Rattle.wdf_loop.specs.Shows.{AllShow, AreFed, Follows, values_in}
 
 -- the slot whose value a cell's number of this name is
@@ -63,7 +62,7 @@ AllCanRun runs q root shares chains feeds count cells rows = (c : ℕ) → c < r
 abbrev pub HoldSent : List Part → List Mark → (ℕ → Slots) → List (List ℤ) → ℕ → ℕ → Type 0
 HoldSent watched marks slots waves c f =
     (i : ℕ) → i < length watched
-    → wave_in (slice_index_or waves (f * length watched + i) []) c ≡ slots (f + 1) (sent_slot (part_at watched i) (mark_at marks (part_at watched i).stage))
+    → watched_in (length watched) waves i f c ≡ slots (f + 1) (sent_slot (part_at watched i) (mark_at marks (part_at watched i).stage))
 
 -- when so many frames of the run c are done: its cells show the values, and each frame has its rows
 pub record HasRun (root : ℕ) (shares : List Share) (chains : List Chain) (feeds : List Feed) (watched : List Part) (marks : List Mark) (slots : ℕ → Slots) (done : ℕ) (cells : List (List Cell)) (waves : List (List ℤ)) (c : ℕ) : Type 0 where

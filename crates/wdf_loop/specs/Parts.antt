@@ -1,5 +1,6 @@
 -- The parts of stages that are elements: which wave of its stage a part is sent, and whose it is.
-use Rattle.std.specs.Prelude.{◌≡◌, ℕ, ◌<◌, ◌≤◌, false, ℤ, if◌then◌else◌, List, length, slice_index_or}
+use Rattle.std.specs.Prelude.{◌≡◌, ℕ, ◌+◌, ◌*◌, ◌<◌, ◌≤◌, false, ℤ, if◌then◌else◌, List, [], length, slice_index_or}
+use Rattle.wdf_law.specs.Elements.{signed}
 use Rattle.wdf_law.specs.Network.{Network, absorbing_numbers, elements}
 use Rattle.wdf_law.specs.OutputRule.{is_flipped, outlet_element}
 use Rattle.wdf_sched.specs.Meaning.{slot_at}
@@ -9,6 +10,7 @@ use Rattle.wdf_loop.specs.declared.mark.Mark.{Mark}
 use Rattle.wdf_loop.specs.declared.outlet.Outlet.{Outlet}
 use Rattle.wdf_loop.specs.declared.part.Part.{Part}
 use Rattle.wdf_loop.specs.Layouts.{mark_at}
+use Rattle.wdf_loop.specs.RunCells.{wave_in}
 use Rattle.wdf_loop.specs.Runs.{cell_at}
 
 abbrev pub part_at : List Part → ℕ → Part
@@ -53,3 +55,12 @@ pub record IsOutlet (n : Network) (o : Outlet) : Type 0 where
   pub inside : o.place < length (absorbing_numbers n)
   pub element : absorbing_at n o.place ≡ outlet_element n
   pub flip : o.flip ≡ is_flipped (elements n) (outlet_element n)
+
+-- ---- rows of waves, `width` in each frame
+
+-- the wave in the row of a place in the run c, and the load wave
+abbrev pub watched_in : (width : ℕ) → List (List ℤ) → (place frame c : ℕ) → ℤ
+watched_in width waves place frame c = wave_in (slice_index_or waves (frame * width + place) []) c
+
+abbrev pub load_in : (width : ℕ) → Outlet → List (List ℤ) → (frame c : ℕ) → ℤ
+load_in width o waves frame c = signed o.flip (watched_in width waves o.place frame c)

@@ -73,7 +73,9 @@ pub(crate) fn group_block<const C: usize>(
     schedule.rules();
     plan.rules();
     let net = schedule.net();
+    net.rules();
     wdf_law::laws::numbers(net);
+    wdf_sched::laws::values(schedule);
     wdf_energy::laws::frames_followed(net, plan);
     wdf_energy::laws::blocks_followed(net, plan);
     let guard = plan.guard();
@@ -86,7 +88,6 @@ pub(crate) fn group_block<const C: usize>(
         count,
         values,
     );
-    let mut counted = done;
     advance::<C>(
         schedule,
         plan,
@@ -96,7 +97,7 @@ pub(crate) fn group_block<const C: usize>(
         count,
         values,
         waves,
-        &mut counted,
+        done,
     );
     give_block::<C>(
         waves,

@@ -1,5 +1,5 @@
 // What a ledger notes of the frames of several runs.
-ghost use Rattle.std.specs.Prelude.{◌≡◌, ℕ, ◌+◌, ◌*◌, ◌<◌, ◌≤◌, pos, length, slice_index_or};
+ghost use Rattle.std.specs.Prelude.{◌≡◌, ℕ, ℤ, ◌+◌, ◌*◌, ◌<◌, ◌≤◌, ◌^◌, pos, length, slice_index_or};
 ghost use Rattle.wdf_law.specs.Network.{absorbing_numbers, elements, source_numbers};
 ghost use Rattle.wdf_energy.specs.Accounts.{account_at};
 ghost use Rattle.wdf_energy.specs.Blocks.{AreLast, HasRoomFor, HaveSent, NotesOver};
@@ -69,6 +69,7 @@ pub(crate) fn note_runs<const C: usize>(
 )
     requires runs { C ≤ 4 }
     requires some { 1 ≤ count }
+    requires places { first + C < 2 ^ 64 }
     requires accounts { first + C ≤ length ledger.old.accounts }
     requires few { length every.now ≤ 128 }
     requires each { length every.now ≡ length (elements ledger.old.net) }
