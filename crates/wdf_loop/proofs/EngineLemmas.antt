@@ -1,5 +1,5 @@
 -- The engine as clauses see it: what its slots hold, and what its type keeps.
-use Rattle.std.proofs.Common.{◌≡◌, ℕ, zero, suc, ◌+◌, ◌*◌, ◌<◌, ◌≤◌, List, [], ◌∷◌, length, map, get_or, refl, ap, sym, ◌∙◌, subst, arith}
+use Rattle.std.proofs.Common.{◌≡◌, ℕ, zero, suc, true, ◌+◌, ◌*◌, ◌<◌, ◌≤◌, List, [], ◌∷◌, length, map, get_or, refl, ap, sym, ◌∙◌, subst, arith}
 use Rattle.std.specs.Prelude.{ℤ, pos, ◌-◌, ◌+ℤ◌, slice_index_or}
 use Rattle.std.specs.List.{range_with_len}
 use mathlib.Core.Logic.{◌⊎◌, inl, inr}
@@ -23,20 +23,29 @@ use Rattle.wdf_sched.specs.declared.op.Op.TheVariants.{UpSeries, UpParallel, Roo
 use Rattle.wdf_sched.specs.Operations.{HoldAll, Holds, InOrder, ReadsBelow, Slots, WritesFrom, parallel_rest, written_by}
 use Rattle.wdf_sched.specs.Schedules.{IsSchedule, ScheduleValue}
 use Rattle.wdf_loop.specs.declared.cell.Cell.{Cell}
+use Rattle.wdf_loop.specs.declared.field.Field.{Field}
+use Rattle.wdf_loop.specs.declared.field.Field.TheVariants.{Up, Down, Below, Onward, Raw}
 use Rattle.wdf_loop.specs.declared.groups.Groups.{Groups}
+use Rattle.wdf_loop.specs.declared.mark.Mark.{Mark}
+use Rattle.wdf_loop.specs.declared.place.Place.{Place}
 use Rattle.wdf_loop.specs.declared.run_group.RunGroup.{RunGroup}
 use Rattle.wdf_loop.specs.declared.run_group.RunGroup.TheVariants.{None, One, Two, Four}
 use Rattle.wdf_loop.specs.declared.setting.Setting.{Setting}
+use Rattle.wdf_loop.specs.declared.share.Share.{Share}
 use Rattle.wdf_loop.specs.Advances.{IsAt, root_of}
-use Rattle.wdf_loop.specs.AllRuns.{AreAllSilent, AreAt, HaveAllGone, HoldAccounts, all_slots, run_count, shown_for}
+use Rattle.wdf_loop.specs.AllRuns.{AreAllSilent, AreAt, HaveAllGone, HoldAccounts, all_slots, run_count, shown_for, value_for}
+use Rattle.wdf_loop.specs.Cells.{value_of}
 use Rattle.wdf_loop.specs.Engines.{EngineValue, HoldsLedger, IsBlock, IsFresh, KeepsPlan, runs_of, sent_at, slot_of, state_of}
 use Rattle.wdf_loop.specs.KeptEngines.{IsEngine, engine_of}
+use Rattle.wdf_loop.specs.Layouts.{mark_at, share_at}
 use Rattle.wdf_loop.specs.NextFrames.{Stands, state_in}
+use Rattle.wdf_loop.specs.Places.{Holds as IsIn}
 use Rattle.wdf_loop.specs.RunFrames.{RunsOn}
 use Rattle.wdf_loop.specs.RunGroups.{Goes, IsGroup, cells_of, left_by, sent_of, shown_in, width}
+use Rattle.wdf_loop.specs.Runs.{cell_at}
 use Rattle.wdf_loop.specs.Settings.{IsSetting}
-use Rattle.wdf_loop.specs.Shows.{AllShow}
-use Rattle.wdf_loop.proofs.AllRunsLemmas.{each_run, shown_first, shown_second, shown_third}
+use Rattle.wdf_loop.specs.Shows.{AllShow, Shows}
+use Rattle.wdf_loop.proofs.AllRunsLemmas.{each_run, for_first, for_second, for_third, shown_first, shown_second, shown_third}
 use Rattle.wdf_loop.proofs.MarkLemmas.{room}
 use Rattle.wdf_loop.proofs.NextLemmas.{map-filter, reactance_below}
 use Rattle.wdf_loop.proofs.ValueLemmas.{value_is}
@@ -245,3 +254,64 @@ is_fresh t g s plan runs rules numbers own same count silent = record {
         by : (i < t.schedule.slot_count) ⊎ (t.schedule.slot_count ≤ i) → slot_of (engine_of t g 0) run i ≡ pos 0
         by (inl less) = slot_is t g 0 run i small less ∙ silent run i small less
         by (inr more) = let long = slots_long t g run small in beyond (slice_index_or (all_slots t g) run []) i (omega (arith, long, more))
+
+-- ---- a slot
+
+-- the number of a cell that is the value of a slot
+field_value : (s : Share) (k : Mark) (v : Slots) (d : Cell) (slot : ℕ) (f : Field) → Shows k v d → (s.parallel ≡ true → d.raw ≡ v k.raw) → IsIn f s k slot → value_of f d ≡ v slot
+field_value s k v d slot Up shows raw h = shows.up ∙ ap v h
+field_value s k v d slot Down shows raw h = shows.down ∙ ap v h
+field_value s k v d slot Below shows raw h = shows.below ∙ ap v h
+field_value s k v d slot Onward shows raw h = shows.onward ∙ ap v h
+field_value s k v d slot Raw shows raw h = raw h.0 ∙ ap v h.1
+
+value_in_cells : (t : Setting) (done : ℕ) (cells : List (List Cell)) (c slot : ℕ) (place : Place) → IsSetting t → length cells ≡ length t.layout.shares.items
+    → IsAt t.schedule t.plan done t.layout.shares.items t.layout.marks.items t.layout.chains.items t.layout.feeds.items cells c → slot < t.schedule.slot_count → place.stage < length t.layout.marks.items
+    → IsIn place.field (share_at t.layout.shares.items place.stage) (mark_at t.layout.marks.items place.stage) slot → value_of place.field (cell_at cells place.stage c) ≡ shown_in t cells c slot
+value_in_cells t done cells c slot place set long at small inside held =
+    field_value (share_at shares place.stage) (mark_at marks place.stage) at.slots (cell_at cells place.stage c) slot place.field (at.shows.stages place.stage most) (λ e. raw e (cases_lt place.stage (root_of shares))) held
+    ∙ sym (value_is t.schedule shares marks t.layout.chains.items t.layout.feeds.items at.slots cells c slot set.layout long (subst (λ (k : ℕ). AllShow k shares marks at.slots cells c) (sym last) at.shows) small)
+  where
+    shares : List Share
+    shares = t.layout.shares.items
+
+    marks : List Mark
+    marks = t.layout.marks.items
+
+    last : set.layout.root ≡ root_of shares
+    last = let count = set.layout.shares_count in omega arith
+
+    most : place.stage ≤ root_of shares
+    most = let shares_long = set.layout.shares_count in let marks_long = set.layout.marks_count in omega (arith, shares_long, marks_long, inside)
+
+    raw : (share_at shares place.stage).parallel ≡ true → (place.stage < root_of shares) ⊎ (root_of shares ≤ place.stage) → (cell_at cells place.stage c).raw ≡ at.slots (mark_at marks place.stage).raw
+    raw e (inl less) = at.shows.raws place.stage less e
+    raw e (inr more) =
+        let here : place.stage ≡ set.layout.root = omega (arith, most, more, last) in
+        let own : (share_at shares set.layout.root).parallel ≡ true = subst (λ (x : ℕ). (share_at shares x).parallel ≡ true) here e in
+        let plain = set.layout.plain in
+        absurd (cc)
+
+value_in_group : (t : Setting) (done : ℕ) (g : RunGroup) (slot : ℕ) (place : Place) → IsSetting t → IsGroup t done g → slot < t.schedule.slot_count → place.stage < length t.layout.marks.items
+    → IsIn place.field (share_at t.layout.shares.items place.stage) (mark_at t.layout.marks.items place.stage) slot
+    → (c : ℕ) → c < width g → value_of place.field (cell_at (cells_of g) place.stage c) ≡ shown_in t (cells_of g) c slot
+value_in_group t done None slot place set at few inside held c small = absurd (omega (arith, small))
+value_in_group t done (One cells values waves) slot place set at few inside held c small = value_in_cells t done cells.items c slot place set at.stages (at.at c small) few inside held
+value_in_group t done (Two cells values waves) slot place set at few inside held c small = value_in_cells t done cells.items c slot place set at.stages (at.at c small) few inside held
+value_in_group t done (Four cells values waves) slot place set at few inside held c small = value_in_cells t done cells.items c slot place set at.stages (at.at c small) few inside held
+
+pub value_shown : (t : Setting) (g : Groups) (done run slot : ℕ) (place : Place) → IsEngine t g done → run < run_count g → slot < t.schedule.slot_count → place.stage < length t.layout.marks.items
+    → IsIn place.field (share_at t.layout.shares.items place.stage) (mark_at t.layout.marks.items place.stage) slot → value_for g run place ≡ slot_of (engine_of t g done) run slot
+value_shown t g done run slot place kept small few inside held =
+    each_run (λ (r : ℕ). value_for g r place ≡ shown_for t g r slot) (width g.first) (width g.second) (width g.third)
+    (λ c h. for_first g number c h ∙ (value_in_group t done g.first slot place kept.setting kept.at.first few inside held c h ∙ sym (for_first g shown c h)))
+    (λ c h. for_second g number c h ∙ (value_in_group t done g.second slot place kept.setting kept.at.second few inside held c h ∙ sym (for_second g shown c h)))
+    (λ c h. for_third g number c ∙ (value_in_group t done g.third slot place kept.setting kept.at.third few inside held c h ∙ sym (for_third g shown c)))
+    run small
+    ∙ sym (slot_is t g done run slot small few)
+  where
+    number : List (List Cell) → ℕ → ℤ
+    number cells c = value_of place.field (cell_at cells place.stage c)
+
+    shown : List (List Cell) → ℕ → ℤ
+    shown cells c = shown_in t cells c slot
