@@ -9,13 +9,10 @@ use Rattle.wdf_sched.specs.Operations.{Slots}
 use Rattle.wdf_loop.specs.declared.cell.Cell.{Cell}
 use Rattle.wdf_loop.specs.declared.chain.Chain.{Chain}
 use Rattle.wdf_loop.specs.declared.feed.Feed.{Feed}
-use Rattle.wdf_loop.specs.declared.field.Field.{Field}
-use Rattle.wdf_loop.specs.declared.field.Field.TheVariants.{Up, Down, Below, Onward, Raw}
 use Rattle.wdf_loop.specs.declared.mark.Mark.{Mark}
 use Rattle.wdf_loop.specs.declared.part.Part.{Part}
 use Rattle.wdf_loop.specs.declared.share.Share.{Share}
-use Rattle.wdf_loop.specs.Blocks.{AllCanRun, CanRun, HasRun, HaveRun, HoldSent, IsField, frame_rows, frame_values, slot_of}
-use Rattle.wdf_loop.specs.Cells.{value_of}
+use Rattle.wdf_loop.specs.Blocks.{AllCanRun, CanRun, HasRun, HaveRun, HoldSent, frame_rows, frame_values}
 use Rattle.wdf_loop.specs.Layouts.{mark_at}
 use Rattle.wdf_loop.specs.Parts.{AreWithin, part_at, sent_last, sent_slot, sent_to, watched_in}
 use Rattle.wdf_loop.specs.RunCells.{wave_in}
@@ -24,16 +21,7 @@ use Rattle.wdf_loop.specs.Shows.{AllShow, AreSmallValues}
 use Rattle.wdf_loop.specs.Steps.{AllCanStep, CanStep, HaveStepped}
 use Rattle.wdf_loop.proofs.PlaceLemmas.{ahead}
 
--- a cell's number is the value of its slot
-pub value-shown : (root : ℕ) (shares : List Share) (marks : List Mark) (g : Slots) (cells : List (List Cell)) (c j : ℕ) (field : Field) → AllShow root shares marks g cells c → IsField root shares j field
-    → value_of field (cell_at cells j c) ≡ g (slot_of field (mark_at marks j))
-value-shown root shares marks g cells c j Up shows h = (shows.stages j h).up
-value-shown root shares marks g cells c j Down shows h = (shows.stages j h).down
-value-shown root shares marks g cells c j Below shows h = (shows.stages j h).below
-value-shown root shares marks g cells c j Onward shows h = (shows.stages j h).onward
-value-shown root shares marks g cells c j Raw shows h = shows.raws j h.0 h.1
-
--- and what it is sent that of a part
+-- what a part is sent is the value of its slot
 pub part-sent : (root : ℕ) (shares : List Share) (marks : List Mark) (g : Slots) (cells : List (List Cell)) (c : ℕ) (p : Part) → AllShow root shares marks g cells c → p.stage ≤ root
     → sent_to p (cell_at cells p.stage c) ≡ g (sent_slot p (mark_at marks p.stage))
 part-sent root shares marks g cells c p shows h = by p.beside

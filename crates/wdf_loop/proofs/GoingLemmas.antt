@@ -3,13 +3,13 @@ use Rattle.std.proofs.Common.{◌≡◌, ℕ, ◌+◌, ◌-◌, ◌*◌, ◌<◌
 use Rattle.std.specs.Prelude.{ℤ, pos, slice_index_or, unsigned_abs}
 use Rattle.std.proofs.Math.Nat.{pow-le-pow_right}
 use Rattle.wdf_law.specs.Elements.{signed}
-use Rattle.wdf_law.specs.Network.{Network, absorbing_numbers, elements, source_numbers, unit_of}
+use Rattle.wdf_law.specs.Network.{Network, absorbing_numbers, source_numbers}
 use Rattle.wdf_law.specs.OutputRule.{scaled_up}
 use Rattle.wdf_law.specs.TreeRules.{HasNumbers}
 use Rattle.wdf_bounds.specs.Plans.{PlanOf}
 use Rattle.wdf_energy.specs.Accounts.{LedgerOf, account_at}
 use Rattle.wdf_energy.specs.Blocks.{AreLast, FollowsBlocks, HasRoomFor, HaveSent, NotesOver, frame_column}
-use Rattle.wdf_energy.specs.LedgerLaws.{FollowsFrames, HoldsFrames}
+use Rattle.wdf_energy.specs.LedgerLaws.{FollowsFrames}
 use Rattle.wdf_sched.specs.Carrying.{HasValues}
 use Rattle.wdf_sched.specs.Schedules.{IsSchedule, ScheduleValue}
 use Rattle.wdf_loop.specs.declared.cell.Cell.{Cell}

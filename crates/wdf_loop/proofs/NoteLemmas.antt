@@ -46,7 +46,7 @@ noted_more c first count every cells values waves a b d one two so_far now k sma
     by (inr high) sent have last =
         let at : c ≡ k = omega (arith, small, high) in
         subst (λ (j : ℕ). (s : ℕ → ℕ → ℤ) → HaveSent a.net count s waves j → AreLast a.net count s (sent_last every cells j)
-            → NotesOver a.net count (values_of a values j) s (account_at a (first + j)) (account_at d (first + j))) at here sent have last
+        → NotesOver a.net count (values_of a values j) s (account_at a (first + j)) (account_at d (first + j))) at here sent have last
       where
         here : (s : ℕ → ℕ → ℤ) → HaveSent a.net count s waves c → AreLast a.net count s (sent_last every cells c)
             → NotesOver a.net count (values_of a values c) s (account_at a (first + c)) (account_at d (first + c))

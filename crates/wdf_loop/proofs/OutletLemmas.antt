@@ -128,4 +128,3 @@ is_outlet n o rules numbers place flip =
       element = ap (absorbing_at n) place ∙ (among.1 ∙ from);
       flip = flip ∙ flip_found (elements n) (outlet_element n) (omega (arith, once));
     }
-

@@ -1,6 +1,6 @@
 -- The parts of stages that are elements.
-use Rattle.std.proofs.Common.{◌≡◌, ℕ, zero, suc, ◌+◌, ◌<◌, ◌≤◌, Bool, true, false, cond, List, [], ◌∷◌, ◌++◌, length, get_or, map, refl, ap, sym, ◌∙◌, subst, arith}
-use Rattle.std.specs.Prelude.{ℤ, filter, slice_index_or}
+use Rattle.std.proofs.Common.{◌≡◌, ℕ, ◌+◌, ◌<◌, ◌≤◌, Bool, true, false, cond, List, [], ◌∷◌, ◌++◌, length, get_or, map, refl, ap, sym, ◌∙◌, subst, arith}
+use Rattle.std.specs.Prelude.{filter}
 use Rattle.std.specs.List.{range_with_len}
 use mathlib.Core.Logic.{◌⊎◌, inl, inr}
 use Rattle.std.proofs.lemmas.Bool.{cases_lt}
@@ -41,9 +41,9 @@ parts_none s root marks = record { count_is = refl; each = λ i h. absurd (omega
 pub parts_more : (s : ScheduleValue) (root : ℕ) (marks : List Mark) (count : ℕ) (parts next : List Part) (p : Part) → AreParts s root marks count (λ i. i) parts → IsPart s root marks p count
     → next ≡ parts ++ p ∷ [] → AreParts s root marks (count + 1) (λ i. i) next
 parts_more s root marks count parts next p so_far now is = subst (AreParts s root marks (count + 1) (λ i. i)) (sym is) (record {
-      count_is = length-append parts (p ∷ []) ∙ (λ t. so_far.count_is t + 1);
-      each = λ i small. each i small (cases_lt i count);
-    })
+  count_is = length-append parts (p ∷ []) ∙ (λ t. so_far.count_is t + 1);
+  each = λ i small. each i small (cases_lt i count);
+})
   where
     each : (i : ℕ) → i < count + 1 → (i < count) ⊎ (count ≤ i) → IsPart s root marks (part_at (parts ++ p ∷ []) i) i
     each i small (inl low) =

@@ -5,7 +5,6 @@ use mathlib.Core.Logic.{◌⊎◌, inl, inr}
 use Rattle.std.proofs.Math.Nat.{add-mul, mul-le-mul}
 use Rattle.std.proofs.lemmas.Bool.{cases_lt}
 use Rattle.wdf_loop.specs.Inputs.{HoldFrames, HoldsSamples}
-use Rattle.wdf_loop.specs.RunCells.{wave_in}
 
 -- so much more of each of fewer
 pub next_whole : (x most each : ℕ) → x + 1 ≤ most → x * each + each ≤ most * each

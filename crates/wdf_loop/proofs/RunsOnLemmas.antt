@@ -1,6 +1,6 @@
 -- A run that goes on by its slots goes on by what its elements are sent, and so does its account.
-use Rattle.std.proofs.Common.{◌≡◌, ℕ, ◌+◌, ◌-◌, ◌*◌, ◌<◌, ◌≤◌, Bool, true, false, cond, List, length, map, refl, ap, sym, ◌∙◌, subst, arith}
-use Rattle.std.specs.Prelude.{ℤ, pos, neg_ℤ, replicate, slice_index_or, unsigned_abs}
+use Rattle.std.proofs.Common.{◌≡◌, ℕ, ◌+◌, ◌*◌, ◌<◌, ◌≤◌, Bool, true, false, List, length, map, refl, ap, sym, ◌∙◌, subst, arith}
+use Rattle.std.specs.Prelude.{ℤ, pos, replicate, slice_index_or, unsigned_abs}
 use Rattle.std.specs.List.{range_with_len}
 use Rattle.std.proofs.lemmas.List.{length-replicate}
 use borrow.Author.Differences.{ints}
@@ -14,7 +14,7 @@ use Rattle.wdf_bounds.specs.HeldWords.{IsInput, IsReached}
 use Rattle.wdf_bounds.specs.Plans.{PlanOf}
 use Rattle.wdf_bounds.specs.WordBound.{word_limit}
 use Rattle.wdf_energy.specs.Accounts.{AccountOf, noted}
-use Rattle.wdf_energy.specs.Blocks.{AreLast, FollowsBlocks, HasRoomFor, HaveSent, NotesOver, StepsOver, frame_column}
+use Rattle.wdf_energy.specs.Blocks.{AreLast, FollowsBlocks, HasRoomFor, NotesOver, StepsOver, frame_column}
 use Rattle.wdf_energy.specs.LedgerLaws.{FollowsFrames, HoldsFrames}
 use Rattle.wdf_sched.specs.Carrying.{HasValues}
 use Rattle.wdf_sched.specs.Meaning.{Starts, slot_at}
@@ -30,7 +30,7 @@ use Rattle.wdf_loop.specs.declared.part.Part.{Part}
 use Rattle.wdf_loop.specs.declared.share.Share.{Share}
 use Rattle.wdf_loop.specs.Advances.{GoesOn, IsAt, root_of}
 use Rattle.wdf_loop.specs.Blocks.{frame_values}
-use Rattle.wdf_loop.specs.Layouts.{IsLayout, mark_at}
+use Rattle.wdf_loop.specs.Layouts.{IsLayout}
 use Rattle.wdf_loop.specs.NextFrames.{state_in}
 use Rattle.wdf_loop.specs.Parts.{HasParts, IsOutlet, absorbing_at, part_at, sent_last, watched_in}
 use Rattle.wdf_loop.specs.RunCells.{silent}

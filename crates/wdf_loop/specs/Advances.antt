@@ -1,5 +1,5 @@
 -- Runs of a schedule that go on by a block of frames.
-use Rattle.std.specs.Prelude.{◌≡◌, ℕ, ◌+◌, ◌-◌, ◌<◌, ◌≤◌, ℤ, List, length}
+use Rattle.std.specs.Prelude.{◌≡◌, ℕ, ◌+◌, ◌-◌, ◌<◌, ℤ, List, length}
 use Rattle.wdf_law.specs.Network.{absorbing_numbers}
 use Rattle.wdf_law.specs.Run.{source_values}
 use Rattle.wdf_bounds.specs.HeldWords.{IsInput}

@@ -1,35 +1,17 @@
 -- A block of frames of several runs over one layout.
-use Rattle.std.specs.Prelude.{◌≡◌, ℕ, ◌+◌, ◌*◌, ◌<◌, ◌≤◌, ◌^◌, true, ℤ, List, length, take, drop, slice_index_or}
+use Rattle.std.specs.Prelude.{◌≡◌, ℕ, ◌+◌, ◌*◌, ◌<◌, ◌≤◌, ◌^◌, ℤ, List, length, take, drop}
 use Rattle.wdf_law.specs.Network.{unit_of}
 use Rattle.wdf_sched.specs.Operations.{Slots}
 use Rattle.wdf_sched.specs.Schedules.{ScheduleValue}
 use Rattle.wdf_loop.specs.declared.cell.Cell.{Cell}
 use Rattle.wdf_loop.specs.declared.chain.Chain.{Chain}
 use Rattle.wdf_loop.specs.declared.feed.Feed.{Feed}
-use Rattle.wdf_loop.specs.declared.field.Field.{Field}
-use Rattle.wdf_loop.specs.declared.field.Field.TheVariants.{Up, Down, Below, Onward, Raw}
 use Rattle.wdf_loop.specs.declared.mark.Mark.{Mark}
 use Rattle.wdf_loop.specs.declared.part.Part.{Part}
 use Rattle.wdf_loop.specs.declared.share.Share.{Share}
-use Rattle.wdf_loop.specs.Layouts.{IsLayout, mark_at, share_at}
+use Rattle.wdf_loop.specs.Layouts.{IsLayout, mark_at}
 use Rattle.wdf_loop.specs.Parts.{part_at, sent_slot, watched_in}
 use Rattle.wdf_loop.specs.Shows.{AllShow, AreFed, Follows, values_in}
-
--- the slot whose value a cell's number of this name is
-abbrev pub slot_of : Field → Mark → ℕ
-slot_of Up k = k.up
-slot_of Down k = k.down
-slot_of Below k = k.below
-slot_of Onward k = k.onward
-slot_of Raw k = k.raw
-
--- a stage has a number of this name: the raw one is that of a parallel junction
-abbrev pub IsField : ℕ → List Share → ℕ → Field → Type 0
-IsField root shares j Up = j ≤ root
-IsField root shares j Down = j ≤ root
-IsField root shares j Below = j ≤ root
-IsField root shares j Onward = j ≤ root
-IsField root shares j Raw = (j < root) × ((share_at shares j).parallel ≡ true)
 
 -- the rows of a frame, one for each of `sources` sources, and the values of the run c in them
 abbrev pub frame_rows : ℕ → List (List ℤ) → ℕ → List (List ℤ)

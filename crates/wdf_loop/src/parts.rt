@@ -56,11 +56,7 @@ fn part_with(schedule: &Schedule, layout: &Layout, number: u32) -> Part
 }
 
 // The parts that are elements, by their numbers.
-fn every_part(
-    alloc: Global,
-    schedule: &Schedule,
-    layout: &Layout,
-) -> Result<Vec<Part>, AllocError>
+fn every_part(alloc: Global, schedule: &Schedule, layout: &Layout) -> Result<Vec<Part>, AllocError>
     requires { IsLayout schedule.now layout.now.shares.items layout.now.marks.items layout.now.chains.items layout.now.feeds.items }
     ensures { IfOk result (λ v. AreParts schedule.now (root_of layout.now.shares.items) layout.now.marks.items (length (elements schedule.now.net)) (λ i. i) v.items) }
 {

@@ -44,7 +44,9 @@ fn block_at<const K: u32, const C: usize>(
     requires can { AllCanRun C (2 ^ k) root shares.now chains.now feeds.now count cells.old values.now }
     ensures { HaveRun C (2 ^ k) root shares.now chains.now feeds.now watched.now count count cells.old values.now cells.new waves.new }
 {
-    block::<K, C>(shares, chains, feeds, watched, cells, root, count, values, waves);
+    block::<K, C>(
+        shares, chains, feeds, watched, cells, root, count, values, waves,
+    );
 }
 
 /// A block of frames where the multipliers are counted in units of 2^-k.
@@ -77,25 +79,65 @@ pub(crate) fn block_of<const C: usize>(
     ensures { HaveRun C (2 ^ k) root shares.now chains.now feeds.now watched.now count count cells.old values.now cells.new waves.new }
 {
     match k {
-        1 => block_at::<1, C>(k, shares, chains, feeds, watched, cells, root, count, values, waves),
-        2 => block_at::<2, C>(k, shares, chains, feeds, watched, cells, root, count, values, waves),
-        3 => block_at::<3, C>(k, shares, chains, feeds, watched, cells, root, count, values, waves),
-        4 => block_at::<4, C>(k, shares, chains, feeds, watched, cells, root, count, values, waves),
-        5 => block_at::<5, C>(k, shares, chains, feeds, watched, cells, root, count, values, waves),
-        6 => block_at::<6, C>(k, shares, chains, feeds, watched, cells, root, count, values, waves),
-        7 => block_at::<7, C>(k, shares, chains, feeds, watched, cells, root, count, values, waves),
-        8 => block_at::<8, C>(k, shares, chains, feeds, watched, cells, root, count, values, waves),
-        9 => block_at::<9, C>(k, shares, chains, feeds, watched, cells, root, count, values, waves),
-        10 => block_at::<10, C>(k, shares, chains, feeds, watched, cells, root, count, values, waves),
-        11 => block_at::<11, C>(k, shares, chains, feeds, watched, cells, root, count, values, waves),
-        12 => block_at::<12, C>(k, shares, chains, feeds, watched, cells, root, count, values, waves),
-        13 => block_at::<13, C>(k, shares, chains, feeds, watched, cells, root, count, values, waves),
-        14 => block_at::<14, C>(k, shares, chains, feeds, watched, cells, root, count, values, waves),
-        15 => block_at::<15, C>(k, shares, chains, feeds, watched, cells, root, count, values, waves),
-        16 => block_at::<16, C>(k, shares, chains, feeds, watched, cells, root, count, values, waves),
-        17 => block_at::<17, C>(k, shares, chains, feeds, watched, cells, root, count, values, waves),
-        18 => block_at::<18, C>(k, shares, chains, feeds, watched, cells, root, count, values, waves),
-        19 => block_at::<19, C>(k, shares, chains, feeds, watched, cells, root, count, values, waves),
-        _ => block_at::<20, C>(k, shares, chains, feeds, watched, cells, root, count, values, waves),
+        1 => block_at::<1, C>(
+            k, shares, chains, feeds, watched, cells, root, count, values, waves,
+        ),
+        2 => block_at::<2, C>(
+            k, shares, chains, feeds, watched, cells, root, count, values, waves,
+        ),
+        3 => block_at::<3, C>(
+            k, shares, chains, feeds, watched, cells, root, count, values, waves,
+        ),
+        4 => block_at::<4, C>(
+            k, shares, chains, feeds, watched, cells, root, count, values, waves,
+        ),
+        5 => block_at::<5, C>(
+            k, shares, chains, feeds, watched, cells, root, count, values, waves,
+        ),
+        6 => block_at::<6, C>(
+            k, shares, chains, feeds, watched, cells, root, count, values, waves,
+        ),
+        7 => block_at::<7, C>(
+            k, shares, chains, feeds, watched, cells, root, count, values, waves,
+        ),
+        8 => block_at::<8, C>(
+            k, shares, chains, feeds, watched, cells, root, count, values, waves,
+        ),
+        9 => block_at::<9, C>(
+            k, shares, chains, feeds, watched, cells, root, count, values, waves,
+        ),
+        10 => block_at::<10, C>(
+            k, shares, chains, feeds, watched, cells, root, count, values, waves,
+        ),
+        11 => block_at::<11, C>(
+            k, shares, chains, feeds, watched, cells, root, count, values, waves,
+        ),
+        12 => block_at::<12, C>(
+            k, shares, chains, feeds, watched, cells, root, count, values, waves,
+        ),
+        13 => block_at::<13, C>(
+            k, shares, chains, feeds, watched, cells, root, count, values, waves,
+        ),
+        14 => block_at::<14, C>(
+            k, shares, chains, feeds, watched, cells, root, count, values, waves,
+        ),
+        15 => block_at::<15, C>(
+            k, shares, chains, feeds, watched, cells, root, count, values, waves,
+        ),
+        16 => block_at::<16, C>(
+            k, shares, chains, feeds, watched, cells, root, count, values, waves,
+        ),
+        17 => block_at::<17, C>(
+            k, shares, chains, feeds, watched, cells, root, count, values, waves,
+        ),
+        18 => block_at::<18, C>(
+            k, shares, chains, feeds, watched, cells, root, count, values, waves,
+        ),
+        19 => block_at::<19, C>(
+            k, shares, chains, feeds, watched, cells, root, count, values, waves,
+        ),
+        _ => block_at::<20, C>(
+            k, shares, chains, feeds, watched, cells, root, count, values, waves,
+        ),
     }
 }

@@ -1,4 +1,4 @@
-use Rattle.std.proofs.Common.{rules, ◌≡◌, ℕ, ◌+◌, ◌*◌, ◌<◌, ◌≤◌, ◌^◌, List, length, map, ap, sym, ◌∙◌, subst, arith}
+use Rattle.std.proofs.Common.{rules, ◌≡◌, ℕ, ◌+◌, ◌*◌, ◌<◌, ◌≤◌, ◌^◌, List, length, map, sym, ◌∙◌, subst, arith}
 use Rattle.wdf_law.specs.Network.{Network, absorbing_numbers, elements, source_numbers}
 use Rattle.wdf_law.specs.OutputRule.{scaled_up}
 use Rattle.wdf_law.specs.TreeRules.{HasNumbers}
@@ -9,7 +9,6 @@ use Rattle.wdf_loop.specs.Advances.{root_of}
 use Rattle.wdf_loop.specs.Blocks.{frame_values}
 use Rattle.wdf_loop.specs.Inputs.{HoldFrames}
 use Rattle.wdf_loop.specs.Parts.{AreParts, HasParts, absorbing_at}
-use Rattle.wdf_loop.specs.RunAccounts.{AreNoted}
 use Rattle.wdf_loop.specs.RunFrames.{samples_of}
 use Rattle.wdf_loop.proofs.GoingLemmas.{all_at, all_going, all_on, hold_on, loads_small, parts_within, rooms}
 use Rattle.wdf_loop.proofs.GroupLemmas.{allowed, values_are}
@@ -52,10 +51,26 @@ give_block-requires g c =
     let waves : length c.advance.new.waves ≡ c.args.count * c.len-2.result = same ∙ (c.requires.waves ∙ (λ i. c.args.count * (count ∙ sym width) i)) in
     let inside : c.args.outlet.place < c.len-2.result = let own = c.requires.outlet.inside in omega (arith, own, width) in
     let runs : g.row.C ≤ 4 = c.requires.runs in
-    let one : g.row.C * 8 < 9223372036854775808 = omega arith in
-    (one, (runs, (c.requires.within, (inside, (waves, (c.requires.places,
-    loads_small g.row.C c.args.first s c.args.plan.now c.args.done c.args.count layout.shares.items layout.marks.items layout.chains.items layout.feeds.items c.args.cells.now c.advance.new.cells c.scale_block.new.rows
-    c.advance.new.waves going c.args.parts.now.every.items c.args.parts.now.absorbing.items c.args.outlet c.len-2.result c.requires.parts c.requires.outlet width))))))
+    let one : g.row.C * 8 < 9223372036854775808 = omega arith in (
+      one,
+      (
+        runs,
+        (
+          c.requires.within,
+          (
+            inside,
+            (
+              waves,
+              (
+                c.requires.places,
+                loads_small g.row.C c.args.first s c.args.plan.now c.args.done c.args.count layout.shares.items layout.marks.items layout.chains.items layout.feeds.items c.args.cells.now c.advance.new.cells c.scale_block.new.rows
+                    c.advance.new.waves going c.args.parts.now.every.items c.args.parts.now.absorbing.items c.args.outlet c.len-2.result c.requires.parts c.requires.outlet width,
+              ),
+            ),
+          ),
+        ),
+      ),
+    )
 
 pub note_runs-requires : goal.note_runs-requires
 note_runs-requires g c =
@@ -75,8 +90,7 @@ note_runs-requires g c =
     let parts = subst (λ (ps : List Part). HasParts s (root_of layout.shares.items) layout.marks.items ps c.args.parts.now.absorbing.items) (sym c.deref-2.ensures.value) c.requires.parts in
     let every : length c.deref-2.result.now ≡ length (elements c.args.schedule.now.net) = parts.all.count_is in
     let each : length c.deref-2.result.now ≡ length (elements c.args.ledger.now.net) = every ∙ (λ i. length (elements (sym net i))) in
-    let rules : length (elements c.net-net.result.now) ≤ 128 = c.rules-3.ensures.most in
-    let most : length (elements c.args.schedule.now.net) ≤ 128 = subst (λ (n : Network). length (elements n) ≤ 128) c.net-net.ensures rules in
+    let most : length (elements c.args.schedule.now.net) ≤ 128 = subst (λ (n : Network). length (elements n) ≤ 128) c.net-net.ensures c.rules-3.ensures.most in
     let few : length c.deref-2.result.now ≤ 128 = omega (arith, every, most) in
     let same : length c.advance.new.waves ≡ length c.args.waves.now = search rules in
     let count = c.requires.parts.absorb.count_is in
@@ -88,12 +102,41 @@ note_runs-requires g c =
     let places : c.args.first + g.row.C < 2 ^ 64 = omega (arith, within, all) in
     let runs : g.row.C ≤ 4 = c.requires.runs in
     let one : g.row.C * 56 < 9223372036854775808 = omega arith in
-    let two : g.row.C * 8 < 9223372036854775808 = omega arith in
-    (one, (two, (runs, (c.requires.frame, (places, (c.requires.ledger.inside, (few, (each, (
-    parts_within s layout.shares.items layout.marks.items layout.chains.items layout.feeds.items c.deref-2.result.now c.args.parts.now.absorbing.items (length c.advance.new.cells) c.requires.layout parts (cells ∙ c.requires.stages),
-    (values, (waves,
-    rooms g.row.C c.args.first s c.args.plan.now c.args.done c.args.count layout.shares.items layout.marks.items layout.chains.items layout.feeds.items c.args.cells.now c.advance.new.cells c.scale_block.new.rows
-    c.advance.new.waves going c.args.ledger.now blocks c.requires.ledger)))))))))))
+    let two : g.row.C * 8 < 9223372036854775808 = omega arith in (
+      one,
+      (
+        two,
+        (
+          runs,
+          (
+            c.requires.frame,
+            (
+              places,
+              (
+                c.requires.ledger.inside,
+                (
+                  few,
+                  (
+                    each,
+                    (
+                      parts_within s layout.shares.items layout.marks.items layout.chains.items layout.feeds.items c.deref-2.result.now c.args.parts.now.absorbing.items (length c.advance.new.cells) c.requires.layout parts (cells ∙ c.requires.stages),
+                      (
+                        values,
+                        (
+                          waves,
+                          rooms g.row.C c.args.first s c.args.plan.now c.args.done c.args.count layout.shares.items layout.marks.items layout.chains.items layout.feeds.items c.args.cells.now c.advance.new.cells c.scale_block.new.rows
+                              c.advance.new.waves going c.args.ledger.now blocks c.requires.ledger,
+                        ),
+                      ),
+                    ),
+                  ),
+                ),
+              ),
+            ),
+          ),
+        ),
+      ),
+    )
 
 pub returns-clause-at : goal.returns-clause-at
 returns-clause-at g c =

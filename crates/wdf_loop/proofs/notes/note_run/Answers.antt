@@ -1,4 +1,4 @@
-use Rattle.std.proofs.Common.{◌≡◌, ◌<◌, length, ◌∙◌, arith}
+use Rattle.std.proofs.Common.{◌∙◌, arith}
 use Rattle.wdf_loop.proofs.notes.note_run.Goals as goal
 
 pub returns-clause-notes : goal.returns-clause-notes

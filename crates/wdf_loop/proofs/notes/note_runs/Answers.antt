@@ -1,4 +1,4 @@
-use Rattle.std.proofs.Common.{◌≡◌, ℕ, ◌+◌, ◌*◌, ◌<◌, ◌≤◌, length, sym, ◌∙◌, subst, arith}
+use Rattle.std.proofs.Common.{◌≡◌, ◌+◌, ◌*◌, ◌<◌, ◌≤◌, length, sym, subst, arith}
 use Rattle.wdf_law.specs.Network.{Network, absorbing_numbers, elements, source_numbers}
 use Rattle.wdf_loop.proofs.NoteLemmas.{keeps_more, noted_more, room_next}
 use Rattle.wdf_loop.proofs.notes.note_runs.Goals as goal

@@ -1,5 +1,3 @@
-use Rattle.std.proofs.Common.{◌≡◌, ℕ, ◌+◌, ◌<◌, ◌≤◌}
-use Rattle.wdf_energy.specs.Accounts.{account_at}
 use Rattle.wdf_loop.specs.RunAccounts.{AreNoted, KeepsAccounts}
 use Rattle.wdf_loop.proofs.notes.note_runs.Given as goal
 

@@ -1,4 +1,4 @@
-use Rattle.std.proofs.Common.{◌≡◌, ◌<◌, length, sym, ◌∙◌, arith}
+use Rattle.std.proofs.Common.{◌<◌, length, sym, ◌∙◌, arith}
 use Rattle.wdf_law.specs.Network.{elements, has_absorbing}
 use Rattle.wdf_loop.specs.Parts.{part_at}
 use Rattle.wdf_loop.proofs.PartLemmas.{passing_more, passing_same, read_part}

@@ -1,4 +1,4 @@
-use Rattle.std.proofs.Common.{◌≡◌, List, map, ap, ◌∙◌, subst}
+use Rattle.std.proofs.Common.{List, map, ap, ◌∙◌}
 use Rattle.wdf_law.specs.Network.{Network, absorbing_numbers}
 use Rattle.wdf_loop.specs.declared.part.Part.{Part}
 use Rattle.wdf_loop.specs.Advances.{root_of}

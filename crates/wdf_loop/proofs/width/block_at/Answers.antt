@@ -1,4 +1,4 @@
-use Rattle.std.proofs.Common.{◌≡◌, ℕ, ◌*◌, ◌<◌, ◌≤◌, ◌^◌, length, sym, subst, arith}
+use Rattle.std.proofs.Common.{◌≡◌, ℕ, ◌*◌, ◌<◌, ◌≤◌, ◌^◌, sym, subst, arith}
 use Rattle.wdf_loop.specs.Blocks.{AllCanRun, HaveRun}
 use Rattle.wdf_loop.specs.Runs.{AreShares}
 use Rattle.wdf_loop.proofs.width.block_at.Goals as goal
