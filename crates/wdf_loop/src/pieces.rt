@@ -28,6 +28,7 @@ fn piece(
     ensures block { IsBlock (engine_of setting.now groups.old done.old) (engine_of setting.now groups.new done.new) count input.now output.new ledger.old ledger.new }
 {
     setting.schedule.rules();
+    setting.plan.rules();
     let net = setting.schedule.net();
     wdf_law::laws::numbers(net);
     wdf_sched::laws::values(&setting.schedule);
