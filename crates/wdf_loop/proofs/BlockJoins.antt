@@ -1,8 +1,9 @@
 -- Frames of a block behind those before them.
-use Rattle.std.proofs.Common.{◌≡◌, ℕ, zero, suc, ◌+◌, ◌-◌, ◌*◌, ◌<◌, ◌≤◌, List, [], ◌∷◌, length, map, take, drop, refl, ap, sym, ◌∙◌, subst, arith}
+use Rattle.std.proofs.Common.{◌≡◌, ℕ, zero, suc, ◌+◌, ◌-◌, ◌*◌, ◌^◌, ◌<◌, ◌≤◌, List, [], ◌∷◌, length, map, take, drop, refl, ap, sym, ◌∙◌, subst, arith}
 use Rattle.std.specs.Prelude.{ℤ, pos, unsigned_abs, slice_index_or}
 use mathlib.Core.Logic.{◌⊎◌, inl, inr}
-use Rattle.std.proofs.Math.Nat.{add-mul, mul_assoc}
+use Rattle.std.proofs.Math.Nat.{add-mul, mul-le-mul, mul_assoc}
+use Rattle.std.proofs.Math.Seq.{drop-nil}
 use Rattle.std.proofs.lemmas.Bool.{cases_lt}
 use Rattle.std.proofs.lemmas.List.{get_or-drop, get_or-take}
 use Rattle.wdf_law.specs.Network.{Network, elements, source_numbers}
@@ -11,9 +12,15 @@ use Rattle.wdf_law.specs.Run.{states}
 use Rattle.wdf_law.specs.Step.{Frame, IsStep, after, sent_in}
 use Rattle.wdf_bounds.specs.Plans.{PlanOf}
 use Rattle.wdf_bounds.specs.WordBound.{word_limit}
-use Rattle.wdf_energy.specs.Accounts.{AccountOf, noted}
+use Rattle.wdf_energy.specs.Accounts.{AccountOf, LedgerOf, account_at, noted}
 use Rattle.wdf_sched.specs.Meaning.{Starts}
+use Rattle.wdf_loop.specs.declared.groups.Groups.{Groups}
+use Rattle.wdf_loop.specs.declared.setting.Setting.{Setting}
+use Rattle.wdf_loop.specs.AllRuns.{run_count}
+use Rattle.wdf_loop.specs.Engines.{AreFrames, EngineValue, HoldsLedger, IsBlock, runs_of, sent_at, slot_of, state_of}
+use Rattle.wdf_loop.specs.KeptEngines.{IsWithin, engine_of, input_from, output_from}
 use Rattle.wdf_loop.specs.RunFrames.{IsFrame, RunsOn, samples_of}
+use Rattle.wdf_loop.proofs.EngineLemmas.{count_is}
 use Rattle.wdf_loop.proofs.PlaceLemmas.{next_whole}
 
 -- ---- pieces of lists
@@ -32,8 +39,7 @@ drop_within a (suc b) (suc c) (x ∷ xs) h = drop_within a b c xs (omega (arith,
 
 drop_twice : {X : Type 0} (a b : ℕ) (xs : List X) → drop b (drop a xs) ≡ drop (a + b) xs
 drop_twice zero b xs = ap (λ (k : ℕ). drop k xs) (omega arith)
-drop_twice (suc a) zero [] = refl
-drop_twice (suc a) (suc b) [] = refl
+drop_twice (suc a) b [] = drop-nil b ∙ sym (drop-nil (suc a + b))
 drop_twice (suc a) b (x ∷ xs) = let next : suc a + b ≡ suc (a + b) = omega arith in drop_twice a b xs ∙ ap (λ (k : ℕ). drop k (x ∷ xs)) (sym next)
 
 -- the samples of a frame of a piece are those of the frame
@@ -112,11 +118,11 @@ joined n plan runs run at count input output first_out zs ms ys ups vps last fin
 
     begins_by : (s : Split 0) → state_by 0 s ≡ zs
     begins_by (inl less) = r.begins
-    begins_by (inr more) = let none : 0 ≡ at = omega (arith, more) in w.begins ∙ (sym r.ends ∙ (ap r.state (sym none) ∙ r.begins))
+    begins_by (inr more) = let none : 0 ≡ at = omega (arith, more) in ap w.state (omega (arith, more)) ∙ (w.begins ∙ (sym r.ends ∙ (ap r.state (sym none) ∙ r.begins)))
 
     opened_by : (s : Split 0) → account_by 0 s ≡ a
     opened_by (inl less) = r.opened
-    opened_by (inr more) = let none : 0 ≡ at = omega (arith, more) in w.opened ∙ (sym r.closed ∙ (ap r.account (sym none) ∙ r.opened))
+    opened_by (inr more) = let none : 0 ≡ at = omega (arith, more) in ap w.account (omega (arith, more)) ∙ (w.opened ∙ (sym r.closed ∙ (ap r.account (sym none) ∙ r.opened)))
 
     ends_by : (s : Split (at + count)) → state_by (at + count) s ≡ ys
     ends_by (inl less) = absurd (omega (arith, less))
@@ -192,3 +198,95 @@ joined n plan runs run at count input output first_out zs ms ys ups vps last fin
         ap w.account (omega (arith, more))
         ∙ subst (λ (zs : List ℤ). w.account (f - at + 1) ≡ noted n (map (drive plan.guard n zs) (source_numbers n)) (sent_in n (w.frames (f - at) (rest f more h)).frame) (w.account (f - at))) (samples_at f more h)
         (w.notes (f - at) (rest f more h))
+
+-- ---- blocks
+
+-- no frame yet
+pub none_yet : (t : Setting) (g : Groups) (done : ℕ) (input output : List ℤ) (l : LedgerOf) → HoldsLedger (engine_of t g done) l → IsBlock (engine_of t g done) (engine_of t g done) 0 input output l l
+none_yet t g done input output l held = record {
+  on = λ run small. record {
+    state = λ f. state_of (engine_of t g done) run;
+    begins = refl;
+    frames = λ f h. absurd (omega (arith, h));
+    ends = refl;
+    words = λ f h. absurd (omega (arith, h));
+    starts = λ f h. absurd (omega (arith, h));
+    sent = λ f h. absurd (omega (arith, h));
+    account = λ f. account_at l run;
+    opened = refl;
+    notes = λ f h. absurd (omega (arith, h));
+    closed = refl;
+  };
+  schedules = refl;
+  plans = refl;
+  runs = refl;
+  done = omega arith;
+  ledger = held;
+  still = λ none. refl;
+}
+
+pub blocks_joined : (t : Setting) (g h k : Groups) (d e f at count : ℕ) (input first_out output : List ℤ) (l m p : LedgerOf) → 1 ≤ count → IsBlock (engine_of t g d) (engine_of t h e) at input first_out l m
+    → IsBlock (engine_of t h e) (engine_of t k f) count (input_from t h at count input) (output_from h at count output) m p
+    → ((j : ℕ) → j < at * run_count h → slice_index_or output j (pos 0) ≡ slice_index_or first_out j (pos 0)) → IsBlock (engine_of t g d) (engine_of t k f) (at + count) input output l p
+blocks_joined t g h k d e f at count input first_out output l m p some first second kept = record {
+  on = λ run small. joined n t.plan all run at count input output first_out (state_of before run) (state_of middle run) (state_of behind run) (slot_of middle run) (slot_of behind run) (sent_at middle run) (sent_at behind run)
+      (account_at l run) (account_at m run) (account_at p run) some small
+      (λ j less. kept (j * all + run) (place j run less small)) (first.on run small) (moved run (second.on run (subst (λ (x : ℕ). run < x) (sym first.runs) small)));
+  schedules = refl;
+  plans = refl;
+  runs = second.runs ∙ first.runs;
+  done = let one = first.done in let two = second.done in omega (arith, one, two);
+  ledger = second.ledger;
+  still = λ none. absurd (omega (arith, none, some));
+}
+  where
+    n : Network
+    n = t.schedule.net
+
+    before : EngineValue
+    before = engine_of t g d
+
+    middle : EngineValue
+    middle = engine_of t h e
+
+    behind : EngineValue
+    behind = engine_of t k f
+
+    all : ℕ
+    all = runs_of before
+
+    counts : run_count h ≡ all
+    counts = sym (count_is t h e) ∙ first.runs
+
+    place : (j run : ℕ) → j < at → run < all → j * all + run < at * run_count h
+    place j run less small =
+        let whole = next_whole j at all (omega (arith, less)) in
+        subst (λ (x : ℕ). j * all + run < at * x) (sym counts) (omega (arith, whole, small))
+
+    moved : (run : ℕ) → RunsOn n t.plan (runs_of middle) count (input_from t h at count input) (output_from h at count output) run (state_of middle run) (state_of behind run) (slot_of behind run) (sent_at behind run) (account_at m run) (account_at p run)
+        → RunsOn n t.plan all count (take (count * (all * length (source_numbers n))) (drop (at * (all * length (source_numbers n))) input)) (take (count * all) (drop (at * all) output)) run (state_of middle run) (state_of behind run)
+        (slot_of behind run) (sent_at behind run) (account_at m run) (account_at p run)
+    moved run own =
+        subst (λ (x : ℕ). RunsOn n t.plan all count (take (count * (x * length (source_numbers n))) (drop (at * (x * length (source_numbers n))) input)) (take (count * x) (drop (at * x) output)) run (state_of middle run) (state_of behind run)
+        (slot_of behind run) (sent_at behind run) (account_at m run) (account_at p run)) counts
+        (subst (λ (x : ℕ). RunsOn n t.plan x count (input_from t h at count input) (output_from h at count output) run (state_of middle run) (state_of behind run) (slot_of behind run) (sent_at behind run) (account_at m run) (account_at p run)) first.runs own)
+
+-- the next frames lie within a block's
+pub next_within : (t : Setting) (g h : Groups) (d e at next count : ℕ) (input first_out output : List ℤ) (l m : LedgerOf) → AreFrames (engine_of t g d) count input output → IsBlock (engine_of t g d) (engine_of t h e) at input first_out l m
+    → length first_out ≡ length output → at + next ≤ count → count < 2 ^ 64 → IsWithin t h e at next input first_out
+next_within t g h d e at next count input first_out output l m frames block long most few = record {
+  samples = subst (λ (x : ℕ). (at + next) * (x * length (source_numbers t.schedule.net)) ≤ length input) (sym counts)
+      (let more : (at + next) * (all * length (source_numbers t.schedule.net)) ≤ count * (all * length (source_numbers t.schedule.net)) = mul-le-mul most (omega arith) in
+      let own = frames.samples in omega (arith, more, own));
+  places = subst (λ (x : ℕ). (at + next) * x ≤ length first_out) (sym counts)
+      (let more : (at + next) * all ≤ count * all = mul-le-mul most (omega arith) in
+      let own = frames.places in omega (arith, more, own, long));
+  few = omega (arith, most, few);
+  left = let own = frames.left in let done = block.done in omega (arith, own, done, most);
+}
+  where
+    all : ℕ
+    all = runs_of (engine_of t g d)
+
+    counts : run_count h ≡ all
+    counts = sym (count_is t h e) ∙ block.runs

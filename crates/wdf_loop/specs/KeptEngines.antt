@@ -1,5 +1,5 @@
 -- What the type of an engine keeps, by its fields, and the engine as clauses see it.
-use Rattle.std.specs.Prelude.{ℕ, ◌+◌, ◌*◌, ◌≤◌, ℤ, List, length, take, drop}
+use Rattle.std.specs.Prelude.{ℕ, ◌+◌, ◌*◌, ◌^◌, ◌<◌, ◌≤◌, ℤ, List, length, take, drop}
 use Rattle.wdf_law.specs.Network.{source_numbers}
 use Rattle.wdf_loop.specs.declared.groups.Groups.{Groups}
 use Rattle.wdf_loop.specs.declared.setting.Setting.{Setting}
@@ -24,6 +24,7 @@ pub record IsEngine (t : Setting) (g : Groups) (done : ℕ) : Type 0 where
 pub record IsWithin (t : Setting) (g : Groups) (done at count : ℕ) (input output : List ℤ) : Type 0 where
   pub samples : (at + count) * (run_count g * length (source_numbers t.schedule.net)) ≤ length input
   pub places : (at + count) * run_count g ≤ length output
+  pub few : at + count < 2 ^ 64
   pub left : done + count ≤ t.plan.frames
 
 -- their samples and load waves
