@@ -1,12 +1,10 @@
 -- The engine as clauses see it: its network and plan, the frames done, and of each run the down waves of the last frame; and how
 -- runs go on.
-use Rattle.std.specs.Prelude.{◌≡◌, ℕ, ◌+◌, ◌*◌, ◌<◌, ◌≤◌, ℤ, pos, List, [], length, map, take, drop, slice_index_or, refl}
+use Rattle.std.specs.Prelude.{◌≡◌, ℕ, ◌<◌, ◌≤◌, ℤ, pos, List, [], length, map, slice_index_or, refl}
 use Rattle.std.specs.Coded.{Coded, code_by, coded×, coded_ℕ, coded_ℤ, coded_list}
-use Rattle.wdf_law.specs.Network.{Network, elements, reactances, source_numbers}
+use Rattle.wdf_law.specs.Network.{Network, elements, reactances}
 use Rattle.wdf_law.specs.NetworkCode.{network_code}
-use Rattle.wdf_law.specs.Step.{Frame, IsStep, after, sent_in}
-use Rattle.wdf_law.specs.Run.{at_rest, states}
-use Rattle.wdf_law.specs.OutputRule.{drive, load_wave}
+use Rattle.wdf_law.specs.Run.{at_rest}
 use Rattle.wdf_bounds.specs.HeldWords.{IsReached}
 use Rattle.wdf_bounds.specs.Plans.{PlanOf}
 use Rattle.wdf_bounds.specs.WordBound.{Fits}
@@ -49,40 +47,6 @@ pub record IsFresh (a : EngineValue) (n : Network) (plan : PlanOf) (runs : ℕ) 
   pub done : a.done ≡ 0
   pub state : (run : ℕ) → run < runs → state_of a run ≡ at_rest n
   pub downs : (run i : ℕ) → run < runs → i < length (elements n) → sent_at a run i ≡ pos 0
-
--- ---- a block
-
--- Of whole frames, in each of which the samples of one run stand behind those of the other, those of a run in a frame: one for
--- each source, source 0 first.
-abbrev pub samples_of : (runs sources run frame : ℕ) → List ℤ → List ℤ
-samples_of runs sources run frame input = take sources (drop ((frame * runs + run) * sources) input)
-
--- a frame of a run, from the state zs to the state behind it: the step driven by the samples, with the load wave w
-pub record IsFrame (n : Network) (plan : PlanOf) (samples zs behind : List ℤ) (w : ℤ) : Type 0 where
-  pub frame : Frame
-  pub step : IsStep n (states n zs) (drive plan.guard n samples) frame
-  pub wave : w ≡ load_wave n frame
-  pub state : behind ≡ after n frame
-
--- One of so many runs goes on by so many frames, each from the state that the one before left, driven by its samples; before and
--- behind them its elements were sent these waves.
-pub record RunsOn (n : Network) (plan : PlanOf) (runs count : ℕ) (input output before behind : List ℤ) (run : ℕ) : Type 0 where
-  -- the states by how many frames are done
-  pub state : ℕ → List ℤ
-  pub begins : state 0 ≡ gathered n before
-  pub frames : (f : ℕ) → f < count
-      → IsFrame n plan (samples_of runs (length (source_numbers n)) run f input) (state f) (state (f + 1)) (slice_index_or output (f * runs + run) (pos 0))
-  pub ends : state count ≡ gathered n behind
-  -- what the last frame sent
-  pub sent : (f : ℕ) (h : f < count) → f + 1 ≡ count → (i : ℕ) → i < length (elements n) → slice_index_or behind i (pos 0) ≡ sent_in n (frames f h).frame i
-
--- so does each run of an engine, and nothing else is changed
-pub record IsBlock (a b : EngineValue) (count : ℕ) (input output : List ℤ) : Type 0 where
-  pub on : (run : ℕ) → run < runs_of a → RunsOn a.net a.plan (runs_of a) count input output (slice_index_or a.downs run []) (slice_index_or b.downs run []) run
-  pub net : b.net ≡ a.net
-  pub plans : b.plan ≡ a.plan
-  pub runs : runs_of b ≡ runs_of a
-  pub done : b.done ≡ a.done + count
 
 -- ---- the code that the model of its type wants
 

@@ -12,9 +12,12 @@ pub mod Leaves
 pub mod Limiting
 pub mod Marked
 pub mod NextFrames
+pub mod Parts
 pub mod Places
 pub mod Rows
+pub mod RunAccounts
 pub mod RunCells
+pub mod RunFrames
 pub mod Runs
 pub mod Shows
 pub mod SlotValues

@@ -2,9 +2,11 @@ ghost use Rattle.std.specs.Prelude.{◌≡◌, ◌+◌, ◌*◌, ◌<◌, ◌≤
 ghost use Rattle.wdf_algebra.specs.JunctionValues.{parallel_value};
 ghost use Rattle.wdf_algebra.specs.Truncation.{trunc};
 ghost use Rattle.wdf_loop.specs.Cells.{AreWords, CanBegin, CanFall, CanRise, IsWord, bottom, fallen, fallen_parallel, fallen_series, given, reflects, risen, risen_parallel, risen_series, turned, value_of, wave_up};
+ghost use Rattle.wdf_loop.specs.Parts.{sent_to};
 
 use crate::feed::Feed;
 use crate::field::Field;
+use crate::part::Part;
 use crate::share::Share;
 use crate::sums::{minus, plus, reflected, signed, weighed};
 use wdf_algebra::{Rounded, parallel_part, root_part, series_first, series_second, times};
@@ -62,6 +64,13 @@ impl Cell {
             Field::Onward => self.onward,
             Field::Raw => self.raw,
         }
+    }
+
+    /// What a part of its stage is sent.
+    pub(crate) fn sent(&self, part: Part) -> i64
+        ensures { result ≡ sent_to part self.now }
+    {
+        if part.beside { self.down } else { self.onward }
     }
 
     /// Feeds a source of the stage with its value.

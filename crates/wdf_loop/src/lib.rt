@@ -20,8 +20,11 @@ mod layout;
 mod leaf;
 mod limited;
 mod mark;
+mod notes;
 mod outlet;
 mod outputs;
+mod part;
+mod parts;
 mod passes;
 mod place;
 mod rest;
@@ -29,13 +32,12 @@ mod row;
 mod runs;
 mod samples;
 mod share;
-mod solo;
 mod stage;
 mod step;
 mod sums;
 #[cfg(test)]
 mod tests;
+mod watch;
 mod width;
 
 pub use limited::{Limited, out_sample};
-pub use solo::Solo;
