@@ -1,12 +1,11 @@
 -- The account of a block, frame after frame, and by its sums.
-use Rattle.std.proofs.Common.{◌≡◌, ℕ, zero, suc, ◌+◌, ◌*◌, ◌^◌, ◌<◌, ◌≤◌, List, [], ◌∷◌, length, map, take, get_or, refl, ap, sym, ◌∙◌, subst, arith}
-use Rattle.std.specs.Prelude.{All, ℤ}
-use Rattle.std.specs.List.{sum_by}
-use Rattle.std.proofs.lemmas.List.{ext_get_or, get_or-take, length-map, length-take-le}
+use Rattle.std.proofs.Common.{◌≡◌, ℕ, zero, suc, ◌+◌, ◌*◌, ◌^◌, ◌<◌, ◌≤◌, List, [], ◌∷◌, length, map, get_or, refl, ap, sym, ◌∙◌, subst, arith}
+use Rattle.std.specs.Prelude.{ℤ}
+use Rattle.std.proofs.lemmas.List.{ext_get_or}
 use Rattle.std.proofs.lemmas.List.Elements.{All-get_or}
 use Rattle.wdf_algebra.specs.Squares.{square}
-use Rattle.wdf_law.specs.Network.{Network, elements, has_reactance, reactances, source_numbers, absorbing_numbers}
-use Rattle.wdf_energy.specs.Accounts.{AccountOf, HasRoom, noted, wave_at, with_squares}
+use Rattle.wdf_law.specs.Network.{Network, elements, has_reactance, reactances, absorbing_numbers}
+use Rattle.wdf_energy.specs.Accounts.{AccountOf, HasRoom, noted, with_squares}
 use Rattle.wdf_energy.specs.Blocks.{AreLast, HasRoomFor, HaveSent, NotesOver, frame_column, in_column}
 use Rattle.wdf_energy.specs.PortLists.{every_row, squares_over}
 use Rattle.wdf_energy.proofs.ColumnLemmas.{each-row, frame-window, over-agree}

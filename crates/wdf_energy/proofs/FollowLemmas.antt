@@ -1,6 +1,6 @@
 -- An account that holds the frames of a run has room for a block of them more, and holds it then.
 use Rattle.std.proofs.Common.{◌≡◌, ℕ, zero, suc, ◌+◌, ◌<◌, ◌≤◌, List, [], ◌∷◌, length, map, refl, ap, sym, ◌∙◌, subst, arith}
-use Rattle.std.specs.Prelude.{ℤ, Option, Some, slice_get}
+use Rattle.std.specs.Prelude.{ℤ, Some, slice_get}
 use Rattle.wdf_law.specs.Network.{Network, elements, reactances, source_numbers}
 use Rattle.wdf_law.specs.Step.{Frame, IsStep, sent_in}
 use Rattle.wdf_law.specs.Run.{states}

@@ -2,13 +2,13 @@
 use Rattle.std.proofs.Common.{◌≡◌, ◌≢◌, ℕ, ◌+◌, ◌*◌, ◌^◌, ◌<◌, ◌≤◌, List, length, map, take, get_or, set, ap, sym, ◌∙◌, subst, arith}
 use Rattle.std.specs.Prelude.{ℤ}
 use Rattle.std.proofs.lemmas.List.{get_or-set_same, get_or-set_other, get_or-take, length-map, length-set, length-take, map-set}
-use Rattle.wdf_law.specs.Network.{Network, elements, reactances, source_numbers, absorbing_numbers}
+use Rattle.wdf_law.specs.Network.{Network, reactances, source_numbers, absorbing_numbers}
 use Rattle.wdf_quant.specs.PortBound.{number_at}
 use Rattle.wdf_energy.specs.declared.account.Account.{Account}
 use Rattle.wdf_energy.specs.declared.port.Port.{Port}
 use Rattle.wdf_energy.specs.Accounts.{AccountOf, LedgerOf, account_at, opened, wave_at}
 use Rattle.wdf_energy.specs.Blocks.{AreLast, HasRoomFor, HaveSent, NotesOver, frame_column}
-use Rattle.wdf_energy.specs.PortLists.{IsLedger, elems, every_row, ports_at, shown, squares_over}
+use Rattle.wdf_energy.specs.PortLists.{IsLedger, elems, every_row, shown, squares_over}
 use Rattle.wdf_energy.proofs.BlockLemmas.{block-noted, room-incident, room-squares}
 use Rattle.wdf_energy.proofs.LedgerLemmas.{account-is, ledger}
 use Rattle.wdf_energy.proofs.PortLemmas.{elems-at}

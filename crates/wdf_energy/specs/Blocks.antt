@@ -1,6 +1,6 @@
 -- Frames of a channel that are noted as one block. Their numbers stand in rows, one row for each source or element of each
 -- frame, frame after frame; a row has a column for each of several channels.
-use Rattle.std.specs.Prelude.{◌≡◌, ℕ, ◌+◌, ◌*◌, ◌<◌, ◌≤◌, ℤ, pos, List, [], length, map, take, drop, Option, Some, slice_get, slice_index_or}
+use Rattle.std.specs.Prelude.{◌≡◌, ℕ, ◌+◌, ◌*◌, ◌<◌, ◌≤◌, ℤ, pos, List, [], length, map, take, drop, Some, slice_get, slice_index_or}
 use Rattle.wdf_law.specs.Network.{Network, elements, reactances, source_numbers, absorbing_numbers}
 use Rattle.wdf_law.specs.Step.{Frame, IsStep, sent_in}
 use Rattle.wdf_law.specs.Run.{states}
