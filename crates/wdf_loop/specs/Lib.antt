@@ -1,4 +1,5 @@
 pub mod Advances
+pub mod AllRuns
 pub mod Blocks
 pub mod Cells
 pub mod Chains
@@ -18,7 +19,9 @@ pub mod Rows
 pub mod RunAccounts
 pub mod RunCells
 pub mod RunFrames
+pub mod RunGroups
 pub mod Runs
+pub mod Settings
 pub mod Shows
 pub mod SlotValues
 pub mod Stages
