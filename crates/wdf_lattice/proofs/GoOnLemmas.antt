@@ -6,6 +6,8 @@ use Rattle.std.proofs.lemmas.Slice.{take-put_mid}
 use borrow.Rule.Slice.PartMut.{put_mid}
 use Rattle.wdf_algebra.specs.Pieces.{pieces}
 use Rattle.wdf_algebra.proofs.PieceLemmas.{length-pieces}
+use Rattle.wdf_law.specs.declared.side.Side.{Side}
+use Rattle.wdf_law.specs.declared.side.Side.TheVariants.{Whole, A, B}
 use Rattle.wdf_law.specs.Network.{Network, source_numbers}
 use Rattle.wdf_bounds.specs.Plans.{PlanOf}
 use Rattle.wdf_loop.specs.Engines.{runs_of}
@@ -16,7 +18,7 @@ use Rattle.wdf_lattice.specs.declared.networks.Networks.TheVariants.{Ladder, Lat
 use Rattle.wdf_lattice.specs.declared.side_runs.SideRuns.{SideRuns}
 use Rattle.wdf_lattice.specs.Sides.{sources_driven}
 use Rattle.wdf_lattice.specs.Waves.{frames_of}
-use Rattle.wdf_lattice.specs.Runners.{DriveAll, IsBlock}
+use Rattle.wdf_lattice.specs.Runners.{DriveAll, IsBlock, slots_by}
 use Rattle.wdf_lattice.specs.RunSides.{AreAlike, GoOn, GoesOver, KeepsSide, SideOver, SidesOver, networks_by, plan_by, runs_by}
 use Rattle.wdf_lattice.proofs.CutLemmas.{cut, cut_long, frames_pieces, pieces_split, pieces_taken}
 use Rattle.wdf_lattice.proofs.SidesLemmas.{one_over, sides_more, two_none, two_over}
@@ -35,8 +37,14 @@ go_one x y count input output long kept over =
       plan_is = kept.plans;
       runs_are = kept.counted;
       done = kept.done;
+      still = λ none. one_still (kept.still none);
       over = one_over x.engine.plan.guard (runs_of x.engine) (own_frames x count input) x y output (long ∙ ap (λ (k : ℕ). k * runs_of x.engine) (sym frames)) kept.schedule over;
     }
+  where
+    one_still : y.engine.slots ≡ x.engine.slots → (side : Side) (run slot : ℕ) → slots_by (One y) side run slot ≡ slots_by (One x) side run slot
+    one_still same Whole run slot = ap (λ (l : List (List ℤ)). slice_index_or (slice_index_or l run []) slot (pos 0)) same
+    one_still same A run slot = refl
+    one_still same B run slot = refl
 
 -- by other numbers
 side_by : (n : Network) (guard guard' runs runs' sources sources' count : ℕ) (input waves : List ℤ) (x y : SideRuns) → guard ≡ guard' → runs ≡ runs' → sources ≡ sources'
@@ -45,6 +53,12 @@ side_by n guard guard' runs runs' sources sources' count input waves x y same_gu
     subst (λ (k : ℕ). SideOver n guard' runs' k (pieces count (runs' * k) input) x y waves) same_sources
     (subst (λ (k : ℕ). SideOver n guard' k sources (pieces count (k * sources) input) x y waves) same_runs
     (subst (λ (k : ℕ). SideOver n k runs sources (pieces count (runs * sources) input) x y waves) same_guard over))
+
+two_still : (x y x' y' : SideRuns) → x'.engine.slots ≡ x.engine.slots → y'.engine.slots ≡ y.engine.slots
+    → (side : Side) (run slot : ℕ) → slots_by (Two x' y') side run slot ≡ slots_by (Two x y) side run slot
+two_still x y x' y' first second Whole run slot = refl
+two_still x y x' y' first second A run slot = ap (λ (l : List (List ℤ)). slice_index_or (slice_index_or l run []) slot (pos 0)) first
+two_still x y x' y' first second B run slot = ap (λ (l : List (List ℤ)). slice_index_or (slice_index_or l run []) slot (pos 0)) second
 
 pub go_two : (x y x' y' : SideRuns) (count : ℕ) (input first second output : List ℤ) → length output ≡ count * runs_of x.engine → AreAlike (Two x y)
     → DriveAll (networks_by (Two x y)) (runs_of x.engine) → KeepsSide count x x' → KeepsSide count y y' → GoesOver count input first x x' → GoesOver count input second y y'
@@ -61,6 +75,7 @@ go_two x y x' y' count input first second output long alike driven kept_x kept_y
       plan_is = kept_x.plans;
       runs_are = kept_x.counted;
       done = kept_x.done;
+      still = λ none. two_still x y x' y' (kept_x.still none) (kept_y.still none);
       over = two_over guard runs (pieces count (runs * 1) input) x y x' y' first second output (long ∙ ap (λ (k : ℕ). k * runs) (sym frames)) kept_x.schedule kept_y.schedule
           (side_by x.engine.schedule.net guard guard runs runs (length (source_numbers x.engine.schedule.net)) 1 count input first x x' refl refl driven.0 over_x)
           (side_by y.engine.schedule.net y.engine.plan.guard guard (runs_of y.engine) runs (length (source_numbers y.engine.schedule.net)) 1 count input second y y'
@@ -76,6 +91,7 @@ go_none x y input alike = record {
   plan_is = refl;
   runs_are = refl;
   done = omega arith;
+  still = λ none side run slot. refl;
   over = two_none (networks_by (Two x y)) x.engine.plan.guard (runs_of x.engine) x y refl;
 }
 
@@ -108,6 +124,7 @@ go_more m k input piece ws vs es fs gs some cut front next =
       plan_is = next.plan_is ∙ front.plan_is;
       runs_are = next.runs_are ∙ front.runs_are;
       done = omega (arith, counted, more);
+      still = λ none. absurd (omega (arith, some, none));
       over = subst (λ (fr : List (List ℤ)). SidesOver ns guard runs fr es gs (ws ++ vs)) frames
           (sides_more ns guard runs (pieces m size input) (pieces k size piece) es fs gs ws vs (omega (arith, some, long)) front.over moved);
     }

@@ -1,4 +1,5 @@
 mod AccountLemmas
+mod BeginLemmas
 mod CutLemmas
 mod DriveLemmas
 mod FrameLemmas

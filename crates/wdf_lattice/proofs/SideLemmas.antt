@@ -1,10 +1,11 @@
 -- The engine of one network takes its runs over the frames of a block.
-use Rattle.std.proofs.Common.{◌≡◌, ℕ, ◌+◌, ◌*◌, ◌/◌, ◌%◌, ◌^◌, ◌-◌, ◌<◌, ◌≤◌, List, [], ◌∷◌, ◌++◌, length, take, drop, get_or, refl, sym, ap, ap₂, ◌∙◌, subst, arith}
+use Rattle.std.proofs.Common.{◌≡◌, ◌≢◌, ℕ, zero, suc, ◌+◌, ◌*◌, ◌/◌, ◌%◌, ◌^◌, ◌-◌, ◌<◌, ◌≤◌, List, [], ◌∷◌, ◌++◌, length, take, drop, get_or, refl, sym, ap, ap₂, ◌∙◌, subst, arith}
 use Rattle.std.specs.Prelude.{ℤ, pos, unsigned_abs, slice_index_or}
 use mathlib.Core.Logic.{◌⊎◌, inl, inr}
 use Rattle.std.proofs.Math.Nat.{mod-lt, mul-div_cancel, mul-le-mul, pow-le-pow_right}
 use Rattle.std.proofs.lemmas.Bool.{cases_lt}
 use Rattle.std.proofs.lemmas.Nat.{div-add-mod'}
+use Rattle.std.proofs.lemmas.List.{length-append}
 use Rattle.std.proofs.lemmas.List.Elements.{All-from_get_or}
 use Rattle.std.proofs.lemmas.List.FromFn.{get_or-map-range_with_len}
 use Rattle.wdf_algebra.specs.Pieces.{pieces}
@@ -22,7 +23,7 @@ use Rattle.wdf_energy.specs.Accounts.{AccountOf, LedgerOf, all_noted}
 use Rattle.wdf_sched.specs.Meaning.{Starts, slot_at}
 use Rattle.wdf_sched.specs.Operations.{Slots}
 use Rattle.wdf_sched.specs.Schedules.{ScheduleValue}
-use Rattle.wdf_loop.specs.Engines.{AreFrames, EngineValue, IsBlock, runs_of}
+use Rattle.wdf_loop.specs.Engines.{AreFrames, EngineValue, HoldsLedger, IsBlock, runs_of}
 use Rattle.wdf_loop.specs.RunFrames.{RunsOn, samples_of}
 use Rattle.wdf_lattice.specs.declared.side_runs.SideRuns.{SideRuns}
 use Rattle.wdf_lattice.specs.Waves.{samples_for, wave_in}
@@ -143,8 +144,37 @@ side_over x y count input output one block =
           run_leaves n plan one runs count input output run few _ _ _ _ _ _ (block.on run few) y.engine.schedule (ap (λ (s : ScheduleValue). s.net) block.schedules) (λ i. refl) front last are;
     }
 
-pub side_kept : (x y : SideRuns) (count : ℕ) (input output : List ℤ) → IsBlock x.engine y.engine count input output x.ledger y.ledger → KeepsSide count x y
-side_kept x y count input output block = record { schedule = block.schedules; plans = block.plans; counted = block.runs; done = block.done; held = block.ledger }
+pub side_kept : (x y : SideRuns) (count : ℕ) (input output : List ℤ) → 1 ≤ count → IsBlock x.engine y.engine count input output x.ledger y.ledger → KeepsSide count x y
+side_kept x y count input output some block = record {
+  schedule = block.schedules;
+  plans = block.plans;
+  counted = block.runs;
+  done = block.done;
+  held = block.ledger;
+  still = λ none. absurd (omega (arith, some, none));
+}
+
+-- over none
+pub none_over : (x : SideRuns) (input waves : List ℤ) → GoesOver 0 input waves x x
+none_over x input waves = record {
+  states_are = λ run few. refl;
+  waves_are = λ frame run below few. absurd (omega (arith, below));
+  accounts_are = λ run few. refl;
+  leaves = λ run few front last are.
+      let sizes : 0 ≡ length front + 1 = ap length are ∙ length-append front (last ∷ []) in
+      absurd (omega (arith, sizes));
+}
+
+pub none_kept : (x : SideRuns) → HoldsLedger x.engine x.ledger → KeepsSide 0 x x
+none_kept x held = record { schedule = refl; plans = refl; counted = refl; done = omega arith; held = held; still = λ none. refl }
+
+-- so many there are
+pub some_count : (runs count room : ℕ) → room ≢ 0 → room ≡ count * runs → 1 ≤ count
+some_count runs zero room full given = absurd (full (given ∙ omega arith))
+some_count runs (suc count) room full given = omega arith
+
+pub no_count : (runs count room : ℕ) → 1 ≤ runs → room ≡ 0 → room ≡ count * runs → 0 ≡ count
+no_count runs count room some none given = same_count runs count 0 room some (none ∙ omega arith) given
 
 -- none of whose load waves is larger than a word
 word_small : (plan : PlanOf) (z : ℤ) → unsigned_abs z ≤ word_limit plan → unsigned_abs z ≤ 2 ^ 60

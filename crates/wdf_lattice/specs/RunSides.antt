@@ -18,7 +18,7 @@ use Rattle.wdf_lattice.specs.declared.networks.Networks.TheVariants.{Ladder, Lat
 use Rattle.wdf_lattice.specs.declared.side_runs.SideRuns.{SideRuns}
 use Rattle.wdf_lattice.specs.Sides.{sources_driven}
 use Rattle.wdf_lattice.specs.Waves.{samples_for, wave_in}
-use Rattle.wdf_lattice.specs.Runners.{DriveAll, NoteOver, RunOver, ShowLast, ShowsStep, accounts_by, schedule_by, states_by}
+use Rattle.wdf_lattice.specs.Runners.{DriveAll, NoteOver, RunOver, ShowLast, ShowsStep, accounts_by, schedule_by, slots_by, states_by}
 
 -- ---- what is kept
 
@@ -115,6 +115,7 @@ pub record KeepsSide (count : ℕ) (x y : SideRuns) : Type 0 where
   pub counted : runs_of y.engine ≡ runs_of x.engine
   pub done : y.engine.done ≡ x.engine.done + count
   pub held : HoldsLedger y.engine y.ledger
+  pub still : count ≡ 0 → y.engine.slots ≡ x.engine.slots
 
 -- the frames take the runs of all networks on
 pub record SidesOver (ns : Networks) (guard runs : ℕ) (frames : List (List ℤ)) (es fs : Engines) (waves : List ℤ) : Type 0 where
@@ -130,6 +131,7 @@ pub record GoOn (count : ℕ) (input output : List ℤ) (es fs : Engines) : Type
   pub plan_is : plan_by fs ≡ plan_by es
   pub runs_are : runs_by fs ≡ runs_by es
   pub done : done_by fs ≡ done_by es + count
+  pub still : count ≡ 0 → (side : Side) (run slot : ℕ) → slots_by fs side run slot ≡ slots_by es side run slot
   pub over : SidesOver (networks_by es) (plan_by es).guard (runs_by es) (pieces count (runs_by es * sources_driven (networks_by es)) input) es fs output
 
 -- each of these is at most 2^60

@@ -85,7 +85,8 @@ impl Runner {
     /// `input` has whole frames of samples, in each frame those of one run behind those of the
     /// other, one for each source; `output` has room for a load wave of each run in each frame. No
     /// sample's magnitude is over the plan's `amp`, and there are no more frames than the plan has
-    /// left. At the slots of each element are then the waves of the last frame.
+    /// left. At the slots of each element are then the waves of the last
+    /// frame.
     pub fn block(&mut self, input: &[i64], output: &mut [i64])
         requires frames { IsBlock self.old.runs (sources_driven self.old.networks) self.old.done self.old.plan.frames input.now output.old }
         requires amplitude { All (λ s. unsigned_abs s ≤ self.old.plan.amp) input.now }
@@ -93,6 +94,7 @@ impl Runner {
         ensures accounts { NotesOn self.old.networks self.old.plan.guard self.old.runs (states_of self.old) (accounts_of self.old) (accounts_of self.new) input.now }
         ensures done { (count : ℕ) → length output.old ≡ count * self.old.runs → self.new.done ≡ self.old.done + count }
         ensures leaves { ShowLast self.old.networks self.old.plan.guard self.old.runs (states_of self.old) self.new.engines (frames_of self.old.networks self.old.runs input.now) }
+        ensures still { length output.old ≡ 0 → (side : Side) (run slot : ℕ) → slots_of self.new side run slot ≡ slots_of self.old side run slot }
         ensures schedules { (side : Side) → schedule_of self.new side ≡ schedule_of self.old side }
         ensures networks { self.new.networks ≡ self.old.networks }
         ensures plan { self.new.plan ≡ self.old.plan }

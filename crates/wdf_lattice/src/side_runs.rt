@@ -62,7 +62,8 @@ impl SideRuns {
         Ok(SideRuns { engine, ledger })
     }
 
-    /// Makes the next frames of all runs, and notes them.
+    /// Makes the next frames of all runs, and notes them. Where there is none, the slots stay as they
+    /// are.
     pub(crate) fn block(&mut self, input: &[i64], output: &mut [i64])
         requires some { 1 ≤ runs_of self.old.engine }
         requires held { HoldsLedger self.old.engine self.old.ledger }
@@ -72,6 +73,9 @@ impl SideRuns {
         ensures over { (count : ℕ) → length output.old ≡ count * runs_of self.old.engine → GoesOver count input.now output.new self.old self.new }
         ensures small { AreSmall output.new }
     {
+        if output.is_empty() {
+            return;
+        }
         one_step(self.engine.schedule().net());
         self.engine.block(input, output, &mut self.ledger);
     }
