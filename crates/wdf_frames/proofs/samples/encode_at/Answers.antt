@@ -6,11 +6,11 @@ use Rattle.wdf_law.specs.OutputRule.{output_of}
 use Rattle.wdf_loop.specs.Limiting.{is_limited}
 use Rattle.wdf_wav.specs.SampleCoding.{sample_coding}
 use Rattle.wdf_frames.proofs.SampleLemmas.{written_more}
-use Rattle.wdf_frames.proofs.samples.encode.Goals as goal
+use Rattle.wdf_frames.proofs.samples.encode_at.Goals as goal
 
 pub loop-k-preserved : goal.loop-k-preserved
-loop-k-preserved c =
-    let bits = c.args.bits in
+loop-k-preserved g c =
+    let bits = g.row.BITS in
     let down = c.args.down in
     let waves = c.args.waves.now in
     let k = c.loop-k.k in
