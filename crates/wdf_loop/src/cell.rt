@@ -8,7 +8,7 @@ use crate::feed::Feed;
 use crate::field::Field;
 use crate::part::Part;
 use crate::share::Share;
-use crate::sums::{minus, plus, reflected, signed, weighed};
+use crate::sums::{brought_back, minus, plus, reflected, signed, weighed};
 use wdf_algebra::{Rounded, parallel_part, root_part, series_first, series_second, times};
 
 /// The numbers of a junction in one run, those of its last frame; all but `raw` are waves. One part
@@ -109,7 +109,7 @@ impl Cell {
         self.up = self.reflected::<K>(share);
         self.below = wave;
         self.raw = plus(weighed::<K>(share.m, self.up), weighed::<K>(share.n, wave));
-        Rounded::by_power::<K>(self.raw).truncated()
+        brought_back::<K>(self.raw)
     }
 
     /// A junction on the way up, the tree below reflecting `wave`: the wave that it reflects.
