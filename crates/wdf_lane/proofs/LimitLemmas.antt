@@ -1,6 +1,6 @@
 -- More output samples are made.
-use Rattle.std.proofs.Common.{◌≡◌, ℕ, suc, ◌+◌, ◌-◌, ◌*◌, ◌/◌, ◌<◌, ◌≤◌, Bool, true, false, List, [], ◌∷◌, ◌++◌, length, take, drop, set, get_or, map, refl, sym, ap, subst, ◌∙◌, arith, take-add, length-append, length-drop, length-take-le, ℤ}
-use Rattle.std.specs.Prelude.{filter, cond, not, ◌||◌, pos, neg_ℤ, ◌-ℤ◌, ◌^◌, int_lt}
+use Rattle.std.proofs.Common.{◌≡◌, ℕ, zero, suc, ◌+◌, ◌-◌, ◌*◌, ◌<◌, ◌≤◌, Bool, true, false, List, [], ◌∷◌, ◌++◌, length, take, drop, set, get_or, map, refl, sym, ap, subst, ◌∙◌, arith, take-add, length-append, ℤ}
+use Rattle.std.specs.Prelude.{All, filter, cond, not, ◌||◌, pos, neg_ℤ, ◌-ℤ◌, ◌^◌, int_lt}
 use Rattle.std.specs.Int.{int_max, int_min}
 use Rattle.std.specs.Ordering.{int_eq}
 use Rattle.std.proofs.lemmas.Int.{ints}
@@ -10,6 +10,7 @@ use Rattle.std.proofs.lemmas.Simd.{map-map}
 use Rattle.wdf_algebra.specs.Truncation.{trunc}
 use Rattle.wdf_law.specs.OutputRule.{limited as limiting, output_of}
 use Rattle.wdf_loop.specs.Limiting.{is_limited, is_outside}
+use Rattle.wdf_algebra.specs.Samples.{IsSampleValue, IsSampleWidth}
 use Rattle.wdf_lane.specs.Lanes.{changes}
 use Rattle.std.proofs.lemmas.List.{take_more, take_more_set, take_all, map-append}
 use Rattle.std.proofs.lemmas.List.Elements.{filter-append}
@@ -68,6 +69,15 @@ one_made f k waves out z d inside room so_far is =
 pub all_made : (f : ℤ → ℤ) (k : ℕ) (waves out : List ℤ) → length waves ≤ k → length out ≡ length waves → take k out ≡ map f (take k waves) → out ≡ map f waves
 all_made f k waves out all room so_far =
     sym (take_all k out (omega arith)) ∙ (so_far ∙ ap (map f) (take_all k waves all))
+
+-- each output sample is a value of its width
+limited-range : (bits : ℕ) (z : ℤ) → IsSampleWidth bits → IsSampleValue bits (limiting bits z)
+limited-range bits z w = grind (arith, ints)
+
+pub outputs-range : (down bits : ℕ) (waves : List ℤ) → IsSampleWidth bits → All (IsSampleValue bits) (map (output_of down bits) waves)
+outputs-range down bits [] w k d h = absurd (omega arith)
+outputs-range down bits (z ∷ zs) w zero d h = limited-range bits (trunc z (2 ^ down)) w
+outputs-range down bits (z ∷ zs) w (suc k) d h = outputs-range down bits zs w k d (omega arith)
 
 -- ---- a group of four
 

@@ -1,6 +1,6 @@
 -- The samples in eight bytes, from the lanes of a vector.
-use Rattle.std.proofs.Common.{◌≡◌, ℕ, ◌+◌, ◌*◌, ◌/◌, ◌%◌, ◌<◌, List, [], ◌∷◌, map, length, take, get_or, Fits, to_z, of_z, w8, w16, w64, refl, ap, ◌∙◌, arith, ℤ}
-use Rattle.std.proofs.lemmas.Int.{to_z-of_z, ints}
+use Rattle.std.proofs.Common.{◌≡◌, ℕ, ◌+◌, ◌*◌, ◌/◌, ◌%◌, ◌<◌, List, [], ◌∷◌, length, take, get_or, Fits, to_z, of_z, w8, w16, w64, refl, ap, ◌∙◌, arith, ℤ}
+use Rattle.std.proofs.lemmas.Int.{ints}
 use Rattle.std.proofs.lemmas.Bool.Decides.{nat_tests}
 use lib.Lanes.{number_l}
 use Rattle.wdf_wav.specs.SampleCoding.{sample_value, value_of_code}

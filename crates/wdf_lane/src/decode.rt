@@ -5,7 +5,7 @@ use crate::lanes::four_samples;
 use wdf_wav::laws::data_append;
 use wdf_wav::sample_of;
 
-// The samples that come in whole groups of four.
+// The samples in whole groups of four.
 fn decode_groups(bytes: &[u8], out: &mut [i64])
     requires whole { length bytes.now ≡ length out.old * 2 }
     ensures room { length out.new ≡ length out.old }
@@ -17,7 +17,7 @@ fn decode_groups(bytes: &[u8], out: &mut [i64])
     }
 }
 
-// The samples from one on, where those before are there.
+// The samples from number `from` on, where those before are there.
 fn decode_rest(bytes: &[u8], from: usize, out: &mut [i64])
     requires whole { length bytes.now ≡ length out.old * 2 }
     requires inside { from ≤ length out.old }
@@ -30,8 +30,9 @@ fn decode_rest(bytes: &[u8], from: usize, out: &mut [i64])
     }
 }
 
-/// Gives the values of the samples of 16 bits in `bytes`, two bytes each: those of whole groups of
-/// four by lanes, and the rest one by one. `bytes` has twice as many entries as `out`.
+/// Gives the values of the samples of 16 bits in `bytes`: two's complement, the lowest byte first.
+///
+/// `bytes` has two entries for each of `out`.
 pub fn decode16(bytes: &[u8], out: &mut [i64])
     requires { length bytes.now ≡ length out.old * 2 }
     ensures { out.new ≡ samples_of 16 bytes.now }

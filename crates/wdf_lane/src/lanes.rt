@@ -7,7 +7,7 @@ ghost use Rattle.wdf_wav.specs.PcmStream.{samples_of};
 
 use std::simd::prelude::*;
 
-// The bits below those of a whole unit of 2^down.
+// All but one of a whole unit of 2^down: the bits below it.
 #[inline(always)]
 fn part_mask(down: u8) -> i64
     requires { down ≤ 33 }

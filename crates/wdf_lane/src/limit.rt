@@ -1,5 +1,5 @@
-ghost use Rattle.std.specs.Prelude.{◌≡◌, ◌≤◌, ◌-◌, ◌*◌, ◌/◌, ◌^◌, length, take, map, filter, pos, neg_ℤ, ◌-ℤ◌, ◌≤ℤ◌};
-ghost use Rattle.wdf_algebra.specs.Samples.{IsSampleWidth};
+ghost use Rattle.std.specs.Prelude.{◌≡◌, ◌≤◌, ◌-◌, ◌*◌, ◌/◌, ◌^◌, length, take, map, filter, pos, neg_ℤ, ◌-ℤ◌, ◌≤ℤ◌, All};
+ghost use Rattle.wdf_algebra.specs.Samples.{IsSampleValue, IsSampleWidth};
 ghost use Rattle.wdf_law.specs.OutputRule.{output_of};
 ghost use Rattle.wdf_loop.specs.Limiting.{is_limited};
 
@@ -69,13 +69,18 @@ fn limit_groups(waves: &[i64], down: u8, bits: u8, out: &mut [i64]) -> u64
 {
     let mut limited = 0;
     for k in 0..waves.len() / 4 {
-        limited += limit_four(&waves[k * 4..k * 4 + 4], down, bits, &mut out[k * 4..k * 4 + 4]);
+        limited += limit_four(
+            &waves[k * 4..k * 4 + 4],
+            down,
+            bits,
+            &mut out[k * 4..k * 4 + 4],
+        );
     }
     limited
 }
 
-// The output samples from one on, where those before are there: how many of all were limited,
-// `before` being the number of those before.
+// The output samples from number `from` on, where those before are there, and how many of all were
+// limited, where `before` of those before were.
 fn limit_rest(waves: &[i64], from: usize, before: u64, down: u8, bits: u8, out: &mut [i64]) -> u64
     requires few { down ≤ 33 }
     requires width { IsSampleWidth bits }
@@ -97,15 +102,17 @@ fn limit_rest(waves: &[i64], from: usize, before: u64, down: u8, bits: u8, out: 
     limited
 }
 
-/// Gives the output samples that load waves come to, as [`out_sample`] does, and says how many were
-/// limited: those of whole groups of four by lanes, and the rest one by one.
+/// Gives the output samples of `bits` bits that load waves come to, and says how many were limited:
+/// of each wave what [`out_sample`] gives.
 ///
-/// `waves` and `out` have as many entries; `down` is at most 33, and `bits` is 8, 16, 24 or 32.
+/// The waves are counted in units of `2^-down` of an output step; `down` is at most 33, and `bits` is
+/// 8, 16, 24 or 32. `out` has an entry for each wave.
 pub fn limit_block(waves: &[i64], down: u8, bits: u8, out: &mut [i64]) -> u64
     requires few { down ≤ 33 }
     requires width { IsSampleWidth bits }
     requires room { length out.old ≡ length waves.now }
     ensures values { out.new ≡ map (output_of down bits) waves.now }
+    ensures range { All (IsSampleValue bits) out.new }
     ensures limited { result ≡ length (filter (is_limited down bits) waves.now) }
     ensures most { result ≤ length waves.now }
 {

@@ -1,5 +1,5 @@
 -- A group more.
-use Rattle.std.proofs.Common.{◌≡◌, ◌+◌, ◌*◌, ◌/◌, ◌<◌, ◌≤◌, length, map, arith, to_z, of_z, w64, ◌∙◌}
+use Rattle.std.proofs.Common.{◌≡◌, ◌+◌, ◌*◌, ◌≤◌, length, map, arith, to_z, of_z, w64, ◌∙◌}
 use Rattle.std.proofs.lemmas.Simd.{length-put_chunk}
 use Rattle.wdf_lane.proofs.LaneLemmas.{same_words}
 use Rattle.wdf_lane.proofs.DecodeLemmas.{four_read}

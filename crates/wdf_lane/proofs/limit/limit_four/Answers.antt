@@ -1,5 +1,5 @@
 -- The group's values, from those of its lanes.
-use Rattle.std.proofs.Common.{◌≡◌, ℕ, ◌+◌, ◌^◌, ◌≤◌, SFits, List, ℤ, length, map, take, ap, sym, subst, arith, to_z, of_z, w64, ◌∙◌, rules, pos, get_or}
+use Rattle.std.proofs.Common.{◌≡◌, ◌^◌, SFits, List, ℤ, length, map, ap, sym, subst, arith, to_z, of_z, w64, ◌∙◌}
 use Rattle.std.proofs.lemmas.Simd.{put_chunk_whole}
 use Rattle.std.proofs.lemmas.Int.{to_z-of_z}
 use Rattle.std.specs.Int.{int_max, int_min}

@@ -1,5 +1,5 @@
 -- A group more.
-use Rattle.std.proofs.Common.{◌≡◌, ◌+◌, ◌*◌, ◌/◌, ◌<◌, ◌≤◌, length, arith, ◌∙◌, rules}
+use Rattle.std.proofs.Common.{◌≡◌, ◌+◌, ◌*◌, ◌≤◌, length, arith, ◌∙◌, rules}
 use Rattle.wdf_law.specs.OutputRule.{output_of}
 use Rattle.wdf_loop.specs.Limiting.{is_limited}
 use Rattle.wdf_lane.proofs.LimitLemmas.{four_made, four_counted}
