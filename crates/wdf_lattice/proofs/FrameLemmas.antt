@@ -1,8 +1,10 @@
 -- Values by frame and run, one after another.
-use Rattle.std.proofs.Common.{◌≡◌, ℕ, zero, suc, ℤ, ◌+◌, ◌<◌, List, ◌∷◌, ◌++◌, map, refl, ap, ap₂, ◌∙◌, arith}
+use Rattle.std.proofs.Common.{◌≡◌, ℕ, zero, suc, ℤ, pos, ◌+◌, ◌*◌, ◌<◌, List, ◌∷◌, ◌++◌, length, take, drop, map, get_or, refl, sym, ap, ap₂, ◌∙◌, arith}
 use Rattle.std.specs.Prelude.{flat_map}
 use Rattle.std.specs.List.{range_with_len}
 use Rattle.std.proofs.lemmas.Grind.{flat_map-append}
+use Rattle.std.proofs.lemmas.List.{append-nil, get_or-take, get_or-drop, length-drop, length-take-le, nil_from_length, take-append-drop}
+use Rattle.std.proofs.lemmas.List.FromFn.{fill_by_all}
 use Rattle.wdf_lattice.specs.Waves.{interleaved}
 
 range-split : (a m n : ℕ) → range_with_len a (m + n) ≡ range_with_len a m ++ range_with_len (a + m) n
@@ -40,3 +42,25 @@ pub interleaved-same : (m runs : ℕ) (v w : ℕ → ℕ → ℤ) → ((f r : �
 interleaved-same m runs v w same =
     flat_map-same 0 m (λ (f : ℕ). map (v f) (range_with_len 0 runs)) (λ (f : ℕ). map (w f) (range_with_len 0 runs))
     (λ f below. map-same 0 runs (v f) (w f) (λ r few. same f r (omega (arith, below)) (omega (arith, few))))
+
+-- a list that has each value at its place
+pub interleaved_is : (count runs : ℕ) (v : ℕ → ℕ → ℤ) (xs : List ℤ) → length xs ≡ count * runs
+    → ((f r : ℕ) → f < count → r < runs → get_or xs (f * runs + r) (pos 0) ≡ v f r) → xs ≡ interleaved count runs v
+interleaved_is zero runs v xs long each = nil_from_length xs (omega (arith, long))
+interleaved_is (suc count) runs v xs long each =
+    let sum : suc count ≡ 1 + count = omega arith in
+    let front : length (take runs xs) ≡ runs = length-take-le runs xs (omega (arith, long)) in
+    let left : length (drop runs xs) ≡ count * runs = let cut = length-drop {A = ℤ} runs xs in omega (arith, long, cut) in
+    let first : take runs xs ≡ map (v 0) (range_with_len 0 runs)
+    = fill_by_all (v 0) (take runs xs) runs (pos 0) front
+    (λ r few.
+    let place : r ≡ 0 * runs + r = omega arith in
+    get_or-take runs xs r (pos 0) few ∙ (ap (λ (k : ℕ). get_or xs k (pos 0)) place ∙ each 0 r (omega arith) few)) in
+    let rest : drop runs xs ≡ interleaved count runs (λ (f : ℕ). v (1 + f))
+    = interleaved_is count runs (λ (f : ℕ). v (1 + f)) (drop runs xs) left
+    (λ f r below few.
+    let place : runs + (f * runs + r) ≡ (1 + f) * runs + r = omega arith in
+    get_or-drop runs xs (f * runs + r) (pos 0) ∙ (ap (λ (k : ℕ). get_or xs k (pos 0)) place ∙ each (1 + f) r (omega (arith, below)) few)) in
+    sym (take-append-drop runs xs)
+    ∙ (ap₂ (λ (l m : List ℤ). l ++ m) (first ∙ sym (append-nil (map (v 0) (range_with_len 0 runs)))) rest
+    ∙ (sym (interleaved-append 1 count runs v) ∙ ap (λ (k : ℕ). interleaved k runs v) (sym sum)))

@@ -14,7 +14,8 @@ use Rattle.wdf_lattice.specs.Runners.{AreAtRest, AreOpened, RunsOn, NotesOn}
 use Rattle.wdf_lattice.specs.RunnerLaws.{LeadsTo, AreAccountsOf, GoesOnFromRest}
 use Rattle.wdf_lattice.proofs.AccountLemmas.{accounts-append, accounts_agree}
 use Rattle.wdf_lattice.proofs.WaveLemmas.{frames-append, waves-append, states-append}
-use Rattle.wdf_lattice.proofs.RunOverLemmas.{frames_pieces, states_agree, waves_agree}
+use Rattle.wdf_lattice.proofs.CutLemmas.{frames_pieces}
+use Rattle.wdf_lattice.proofs.RunOverLemmas.{states_agree, waves_agree}
 
 no_frame : (ns : Networks) (runs : ℕ) → 0 < runs * sources_driven ns → frames_of ns runs [] ≡ []
 no_frame ns runs some = frames_pieces ns runs (sources_driven ns) 0 [] some refl (omega arith)

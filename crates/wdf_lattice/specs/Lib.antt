@@ -1,5 +1,4 @@
-pub mod RunEngines
-pub mod RunLedgers
+pub mod RunSides
 pub mod RunnerLaws
 pub mod Runners
 pub mod SideAccounts

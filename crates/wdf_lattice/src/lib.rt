@@ -6,6 +6,7 @@
 //! its two branches.
 #![tactic(auto)]
 
+mod branches;
 mod engines;
 pub mod laws;
 mod networks;

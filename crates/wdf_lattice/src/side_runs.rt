@@ -1,49 +1,30 @@
-// The runs of one network: their beginning, and the frames that their ledger notes.
-ghost use Rattle.std.specs.Prelude.{◌≡◌, ℕ, ◌+◌, ◌*◌, ◌<◌, ◌≤◌, ◌^◌, List, length, map, unsigned_abs, All, IfOk};
-ghost use Rattle.wdf_law.specs.Network.{elements, source_numbers};
-ghost use Rattle.wdf_law.specs.OutputRule.{scaled_up};
+// The runs of one network.
+ghost use Rattle.std.specs.Prelude.{◌≡◌, ℕ, ◌*◌, ◌<◌, ◌≤◌, length, unsigned_abs, All, IfOk, Some};
+ghost use Rattle.wdf_law.specs.Network.{source_numbers, unit_of};
 ghost use Rattle.wdf_bounds.specs.WordBound.{Fits};
 ghost use Rattle.wdf_quant.specs.PortBound.{HasLeafNumbers};
-ghost use Rattle.wdf_energy.specs.Accounts.{HasRoom, account_at, noted, noted_in, totals_of, wave_at};
-ghost use Rattle.wdf_tree.specs.Engines.{EngineValue};
-ghost use Rattle.wdf_lattice.specs.RunEngines.{AreEngines, AreFresh};
-ghost use Rattle.wdf_lattice.specs.RunLedgers.{AreAhead, AreRunsAtRest, HaveRoom, HoldsEach, NoteEach, TakesFrame};
+ghost use Rattle.wdf_energy.specs.Accounts.{account_at, totals_of};
+ghost use Rattle.wdf_sched.specs.Operations.{HoldAll};
+ghost use Rattle.wdf_loop.specs.Engines.{HoldsLedger, runs_of, slot_of};
+ghost use Rattle.wdf_lattice.specs.Runners.{IsBlock, slot_among};
+ghost use Rattle.wdf_lattice.specs.RunSides.{AreSmall, GoesOver, IsNewSide, KeepsSide};
 
 use std::alloc::{AllocError, Global};
-use wdf_algebra::times;
 use wdf_bounds::Plan;
 use wdf_energy::laws::frames_followed;
 use wdf_energy::{Ledger, Totals};
 use wdf_law::Net;
 use wdf_law::laws::one_step;
+use wdf_loop::Engine;
 use wdf_quant::laws::whole_walk;
 use wdf_quant::{RatioFault, Ratios, enclose};
-use wdf_tree::TreeEngine;
+use wdf_sched::compile;
 
-/// The runs of one network: an engine for each, and the ledger of all.
+/// The runs of one network: their engine, and the ledger that notes what it makes.
 #[derive(Drop)]
 pub(crate) struct SideRuns {
-    pub(crate) engines: Vec<TreeEngine>,
+    pub(crate) engine: Engine,
     pub(crate) ledger: Ledger,
-}
-
-// Engines at rest, one for each run.
-fn engines_at_rest(
-    alloc: Global,
-    net: &Net,
-    plan: Plan,
-    runs: usize,
-) -> Result<Vec<TreeEngine>, AllocError>
-    requires { Fits net.now plan }
-    ensures { IfOk result (λ v. AreFresh net.now plan runs v.items) }
-{
-    let mut engines = Vec::new(alloc);
-    for _ in 0..runs {
-        let copy = net.copy(alloc)?;
-        let engine = TreeEngine::new(alloc, copy, plan)?;
-        engines.push(engine)?;
-    }
-    Ok(engines)
 }
 
 // The numbers of a network's ports, none of which is too wide where a plan fits.
@@ -60,106 +41,69 @@ fn ratios_of(alloc: Global, net: &Net, plan: &Plan) -> Result<Ratios, AllocError
     }
 }
 
-/// The runs of a network at rest.
-pub(crate) fn runs_at_rest(
-    alloc: Global,
-    net: &Net,
-    plan: Plan,
-    runs: usize,
-) -> Result<SideRuns, AllocError>
-    requires { Fits net.now plan }
-    ensures { IfOk result (AreRunsAtRest net.now plan runs) }
-{
-    frames_followed(net, &plan);
-    let engines = engines_at_rest(alloc, net, plan, runs)?;
-    let ratios = ratios_of(alloc, net, &plan)?;
-    let ledger = Ledger::new(alloc, net, &ratios, runs)?;
-    Ok(SideRuns { engines, ledger })
-}
-
-// A sample with `guard` more bits, as a source has it.
-#[tactic(auto, using(crate::proofs::CutLemmas::shifted_fits))]
-fn scaled(sample: i64, guard: u8) -> i64
-    requires guard { guard ≤ 16 }
-    requires amplitude { unsigned_abs sample < 2 ^ 32 }
-    ensures { result ≡ scaled_up guard sample }
-{
-    times(sample, i64::from(1u32 << guard))
-}
-
-// Notes a frame of one run: its samples, and the waves that its elements were sent.
-fn note_run(plan: Plan, ledger: &mut Ledger, run: usize, samples: &[i64], downs: &[i64])
-    requires run { run < length ledger.old.accounts }
-    requires each { length samples.now ≡ length (source_numbers ledger.old.net) }
-    requires few { length samples.now ≤ 8 }
-    requires amplitude { All (λ s. unsigned_abs s ≤ plan.amp) samples.now }
-    requires waves { length downs.now ≡ length (elements ledger.old.net) }
-    requires room { HasRoom (noted ledger.old.net (map (scaled_up plan.guard) samples.now) (wave_at downs.now) (account_at ledger.old run)) }
-    ensures { ledger.new ≡ noted_in ledger.old run (map (scaled_up plan.guard) samples.now) downs.now }
-{
-    let mut values = [0; 8];
-    for source in 0..samples.len() {
-        values[source] = scaled(samples[source], plan.guard());
+impl SideRuns {
+    /// The runs of a network at rest.
+    pub(crate) fn new(
+        alloc: Global,
+        net: &Net,
+        plan: Plan,
+        runs: usize,
+    ) -> Result<SideRuns, AllocError>
+        requires plan { Fits net.now plan }
+        requires runs { (1 ≤ runs) × (runs ≤ 8) }
+        ensures { IfOk result (IsNewSide net.now plan runs) }
+    {
+        frames_followed(net, &plan);
+        let ratios = ratios_of(alloc, net, &plan)?;
+        let ledger = Ledger::new(alloc, net, &ratios, runs)?;
+        let copy = net.copy(alloc)?;
+        let schedule = compile(alloc, copy)?;
+        let engine = Engine::new(alloc, schedule, plan, runs)?;
+        Ok(SideRuns { engine, ledger })
     }
-    ledger.note(run, &values[..samples.len()], downs);
-}
 
-// Notes a frame of every run.
-fn note_runs(
-    plan: Plan,
-    done: u32,
-    sources: usize,
-    engines: &[TreeEngine],
-    ledger: &mut Ledger,
-    frame: &[i64],
-)
-    requires engines { AreEngines ledger.old.net plan done (length engines.now) engines.now }
-    requires runs { length ledger.old.accounts ≡ length engines.now }
-    requires sources { sources ≡ length (source_numbers ledger.old.net) }
-    requires few { sources ≤ 8 }
-    requires frame { length frame.now ≡ length engines.now * sources }
-    requires amplitude { All (λ s. unsigned_abs s ≤ plan.amp) frame.now }
-    requires room { HaveRoom plan (length engines.now) sources frame.now engines.now ledger.old }
-    ensures { NoteEach plan (length engines.now) sources frame.now engines.now ledger.old ledger.new }
-{
-    let _ = done;
-    for run in 0..engines.len() {
-        let samples = &frame[run * sources..(run + 1) * sources];
-        note_run(plan, ledger, run, samples, engines[run].downs());
+    /// Makes the next frames of all runs, and notes them. Where there is none, the slots stay as they
+    /// are.
+    pub(crate) fn block(&mut self, input: &[i64], output: &mut [i64])
+        requires some { 1 ≤ runs_of self.old.engine }
+        requires held { HoldsLedger self.old.engine self.old.ledger }
+        requires frames { IsBlock (runs_of self.old.engine) (length (source_numbers self.old.engine.schedule.net)) self.old.engine.done self.old.engine.plan.frames input.now output.old }
+        requires amplitude { All (λ s. unsigned_abs s ≤ self.old.engine.plan.amp) input.now }
+        ensures kept { (count : ℕ) → length output.old ≡ count * runs_of self.old.engine → KeepsSide count self.old self.new }
+        ensures over { (count : ℕ) → length output.old ≡ count * runs_of self.old.engine → GoesOver count input.now output.new self.old self.new }
+        ensures small { AreSmall output.new }
+    {
+        if output.is_empty() {
+            return;
+        }
+        one_step(self.engine.schedule().net());
+        self.engine.block(input, output, &mut self.ledger);
     }
-}
 
-/// Notes the frame that the engines of a network have made, `done` being the frames before it.
-pub(crate) fn note_frame(
-    net: &Net,
-    plan: Plan,
-    done: u32,
-    sources: usize,
-    engines: &[TreeEngine],
-    ledger: &mut Ledger,
-    frame: &[i64],
-)
-    requires fits { Fits net.now plan }
-    requires room { done < plan.frames }
-    requires sources { sources ≡ length (source_numbers net.now) }
-    requires frame { length frame.now ≡ length engines.now * sources }
-    requires amplitude { All (λ s. unsigned_abs s ≤ plan.amp) frame.now }
-    requires ahead { (before : List EngineValue) × AreAhead net.now plan done (length engines.now) sources frame.now before engines.now ledger.old }
-    ensures { (before : List EngineValue) → AreAhead net.now plan done (length engines.now) sources frame.now before engines.now ledger.old → TakesFrame net.now plan done (length engines.now) sources frame.now before engines.now ledger.old ledger.new }
-{
-    net.rules();
-    one_step(net);
-    frames_followed(net, &plan);
-    note_runs(plan, done + 1, sources, engines, ledger, frame);
-}
+    /// Where the energy of a run's frames went.
+    pub(crate) fn totals(&self, plan: &Plan, run: usize) -> Totals
+        requires plan { plan.now ≡ self.now.engine.plan }
+        requires held { HoldsLedger self.now.engine self.now.ledger }
+        requires run { run < runs_of self.now.engine }
+        ensures { result ≡ totals_of self.now.engine.schedule.net (account_at self.now.ledger run) }
+    {
+        self.engine.rules();
+        frames_followed(self.engine.schedule().net(), plan);
+        self.ledger.totals(run)
+    }
 
-/// Where the energy of a run's frames went.
-pub(crate) fn run_totals(net: &Net, plan: Plan, done: u32, side: &SideRuns, run: usize) -> Totals
-    requires fits { Fits net.now plan }
-    requires done { done ≤ plan.frames }
-    requires accounts { (runs : ℕ) × HoldsEach net.now plan done runs side.now.engines.items side.now.ledger × (run < runs) }
-    ensures { result ≡ totals_of net.now (account_at side.now.ledger run) }
-{
-    frames_followed(net, &plan);
-    side.ledger.totals(run)
+    /// What a slot of the schedule holds in a run, if there is such a slot. The slots hold what each
+    /// operation writes.
+    pub(crate) fn slot(&self, run: usize, slot: u16) -> Option<i64>
+        requires { run < runs_of self.now.engine }
+        ensures value { result ≡ slot_among (Some self.now.engine.schedule) (slot_of self.now.engine run) slot }
+        ensures rows { HoldAll (unit_of self.now.engine.schedule.net) (slot_of self.now.engine run) self.now.engine.schedule.ops }
+    {
+        self.engine.rules();
+        if usize::from(slot) < self.engine.schedule().slot_count() {
+            Some(self.engine.slot(run, slot))
+        } else {
+            None
+        }
+    }
 }
