@@ -1,5 +1,5 @@
 -- The runs of three groups as one row of runs.
-use Rattle.std.proofs.Common.{◌≡◌, ℕ, ◌+◌, ◌-◌, ◌*◌, ◌<◌, ◌≤◌, Bool, true, false, cond, nat_lt, List, length, refl, ap, sym, ◌∙◌, subst, arith}
+use Rattle.std.proofs.Common.{◌≡◌, ℕ, ◌+◌, ◌-◌, ◌*◌, ◌<◌, ◌≤◌, Bool, cond, nat_lt, List, length, refl, ap, sym, ◌∙◌, subst, arith}
 use Rattle.std.specs.Prelude.{ℤ, pos, slice_index_or, unsigned_abs}
 use mathlib.Core.Logic.{◌⊎◌, inl, inr}
 use Rattle.std.proofs.lemmas.Bool.{cases_lt, lt-ltb, le-ltb}
@@ -10,7 +10,7 @@ use Rattle.wdf_loop.specs.declared.cell.Cell.{Cell}
 use Rattle.wdf_loop.specs.declared.groups.Groups.{Groups}
 use Rattle.wdf_loop.specs.declared.setting.Setting.{Setting}
 use Rattle.wdf_loop.specs.AllRuns.{AreAllSilent, HaveAllGone, HoldAccounts, for_run, run_count, shown_for}
-use Rattle.wdf_loop.specs.RunAccounts.{HoldRuns, KeepsAccounts}
+use Rattle.wdf_loop.specs.RunAccounts.{HoldRuns}
 use Rattle.wdf_loop.specs.RunGroups.{AreSilent, Goes, HaveGone, cells_of, sent_of, shown_in, width}
 
 -- what holds of each run of each group holds of each run

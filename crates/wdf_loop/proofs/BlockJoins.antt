@@ -7,9 +7,9 @@ use Rattle.std.proofs.Math.Seq.{drop-nil}
 use Rattle.std.proofs.lemmas.Bool.{cases_lt}
 use Rattle.std.proofs.lemmas.List.{get_or-drop, get_or-take}
 use Rattle.wdf_law.specs.Network.{Network, elements, source_numbers}
-use Rattle.wdf_law.specs.OutputRule.{drive, load_wave}
+use Rattle.wdf_law.specs.OutputRule.{drive}
 use Rattle.wdf_law.specs.Run.{states}
-use Rattle.wdf_law.specs.Step.{Frame, IsStep, after, sent_in}
+use Rattle.wdf_law.specs.Step.{IsStep, sent_in}
 use Rattle.wdf_bounds.specs.Plans.{PlanOf}
 use Rattle.wdf_bounds.specs.WordBound.{word_limit}
 use Rattle.wdf_energy.specs.Accounts.{AccountOf, LedgerOf, account_at, noted}

@@ -1,5 +1,5 @@
 -- The engine as clauses see it: what its slots hold, and what its type keeps.
-use Rattle.std.proofs.Common.{◌≡◌, ℕ, zero, suc, true, ◌+◌, ◌*◌, ◌<◌, ◌≤◌, List, [], ◌∷◌, length, map, get_or, refl, ap, sym, ◌∙◌, subst, arith}
+use Rattle.std.proofs.Common.{◌≡◌, ℕ, zero, suc, true, ◌+◌, ◌<◌, ◌≤◌, List, [], ◌∷◌, length, map, get_or, refl, ap, sym, ◌∙◌, subst, arith}
 use Rattle.std.specs.Prelude.{ℤ, pos, ◌-◌, ◌+ℤ◌, slice_index_or}
 use Rattle.std.specs.List.{range_with_len}
 use mathlib.Core.Logic.{◌⊎◌, inl, inr}
@@ -8,14 +8,13 @@ use Rattle.std.proofs.lemmas.List.{get_or-map, length-map}
 use Rattle.std.proofs.lemmas.List.FromFn.{get_or-range_with_len, length-range_with_len}
 use Rattle.wdf_algebra.specs.JunctionValues.{series_part, parallel_value, root_value}
 use Rattle.wdf_algebra.specs.Truncation.{trunc}
-use Rattle.wdf_law.specs.Network.{elements, has_reactance, source_numbers, unit_of}
+use Rattle.wdf_law.specs.Network.{elements, has_reactance, unit_of}
 use Rattle.wdf_law.specs.Run.{at_rest, states}
-use Rattle.wdf_law.specs.OutputRule.{drive}
 use Rattle.wdf_law.specs.TreeRules.{HasNumbers}
 use Rattle.wdf_bounds.specs.HeldWords.{IsReached}
 use Rattle.wdf_bounds.specs.Plans.{PlanOf}
 use Rattle.wdf_energy.specs.Accounts.{AccountOf, LedgerOf, account_at}
-use Rattle.wdf_energy.specs.LedgerLaws.{FollowsFrames, HoldsFrames}
+use Rattle.wdf_energy.specs.LedgerLaws.{FollowsFrames}
 use Rattle.wdf_sched.specs.Carrying.{HasValues}
 use Rattle.wdf_sched.specs.Meaning.{slot_at}
 use Rattle.wdf_sched.specs.declared.op.Op.{Op}
@@ -33,14 +32,13 @@ use Rattle.wdf_loop.specs.declared.run_group.RunGroup.TheVariants.{None, One, Tw
 use Rattle.wdf_loop.specs.declared.setting.Setting.{Setting}
 use Rattle.wdf_loop.specs.declared.share.Share.{Share}
 use Rattle.wdf_loop.specs.Advances.{IsAt, root_of}
-use Rattle.wdf_loop.specs.AllRuns.{AreAllSilent, AreAt, HaveAllGone, HoldAccounts, all_slots, run_count, shown_for, value_for}
+use Rattle.wdf_loop.specs.AllRuns.{AreAllSilent, AreAt, HaveAllGone, HavePlace, HoldAccounts, all_slots, run_count, shown_for, value_for}
 use Rattle.wdf_loop.specs.Cells.{value_of}
-use Rattle.wdf_loop.specs.Engines.{EngineValue, HoldsLedger, IsBlock, IsFresh, KeepsPlan, runs_of, sent_at, slot_of, state_of}
+use Rattle.wdf_loop.specs.Engines.{HoldsLedger, IsBlock, IsFresh, KeepsPlan, runs_of, sent_at, slot_of}
 use Rattle.wdf_loop.specs.KeptEngines.{IsEngine, engine_of}
 use Rattle.wdf_loop.specs.Layouts.{mark_at, share_at}
-use Rattle.wdf_loop.specs.NextFrames.{Stands, state_in}
+use Rattle.wdf_loop.specs.NextFrames.{Stands}
 use Rattle.wdf_loop.specs.Places.{Holds as IsIn}
-use Rattle.wdf_loop.specs.RunFrames.{RunsOn}
 use Rattle.wdf_loop.specs.RunGroups.{Goes, IsGroup, cells_of, left_by, sent_of, shown_in, width}
 use Rattle.wdf_loop.specs.Runs.{cell_at}
 use Rattle.wdf_loop.specs.Settings.{IsSetting}
@@ -315,3 +313,20 @@ value_shown t g done run slot place kept small few inside held =
 
     shown : List (List Cell) → ℕ → ℤ
     shown cells c = shown_in t cells c slot
+
+place_in_group : (t : Setting) (done stage : ℕ) (g : RunGroup) → IsGroup t done g → stage < length t.layout.shares.items → 0 < width g → stage < length (cells_of g)
+place_in_group t done stage None at inside some = absurd (omega (arith, some))
+place_in_group t done stage (One cells values waves) at inside some = let long = at.stages in omega (arith, long, inside)
+place_in_group t done stage (Two cells values waves) at inside some = let long = at.stages in omega (arith, long, inside)
+place_in_group t done stage (Four cells values waves) at inside some = let long = at.stages in omega (arith, long, inside)
+
+pub have_place : (t : Setting) (g : Groups) (done : ℕ) (place : Place) → IsEngine t g done → place.stage < length t.layout.marks.items → HavePlace place g
+have_place t g done place kept inside =
+    let shares = kept.setting.layout.shares_count in
+    let marks = kept.setting.layout.marks_count in
+    let within : place.stage < length t.layout.shares.items = omega (arith, shares, marks, inside) in
+    record {
+      first = place_in_group t done place.stage g.first kept.at.first within;
+      second = place_in_group t done place.stage g.second kept.at.second within;
+      third = place_in_group t done place.stage g.third kept.at.third within;
+    }

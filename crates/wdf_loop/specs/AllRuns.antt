@@ -1,5 +1,5 @@
 -- All runs of an engine, in up to three groups.
-use Rattle.std.specs.Prelude.{◌≡◌, ℕ, ◌+◌, ◌-◌, ◌<◌, ◌≤◌, ℤ, pos, nat_lt, if◌then◌else◌, List, length, map}
+use Rattle.std.specs.Prelude.{◌≡◌, ℕ, ◌+◌, ◌-◌, ◌<◌, ℤ, pos, nat_lt, if◌then◌else◌, List, length, map}
 use Rattle.std.specs.List.{range_with_len}
 use Rattle.wdf_energy.specs.Accounts.{LedgerOf, account_at}
 use Rattle.wdf_energy.specs.LedgerLaws.{HoldsFrames}
@@ -28,11 +28,11 @@ shown_for t g run i = for_run g (λ (cells : List (List Cell)) (c : ℕ). shown_
 abbrev pub value_for : Groups → ℕ → Place → ℤ
 value_for g run place = for_run g (λ (cells : List (List Cell)) (c : ℕ). value_of place.field (cell_at cells place.stage c)) run
 
--- the cells of each run are those of so many stages
-pub record HaveStages (stages : ℕ) (g : Groups) : Type 0 where
-  pub first : 0 < width g.first → length (cells_of g.first) ≡ stages
-  pub second : 0 < width g.second → length (cells_of g.second) ≡ stages
-  pub third : 0 < width g.third → length (cells_of g.third) ≡ stages
+-- the cells of each run have the place
+pub record HavePlace (place : Place) (g : Groups) : Type 0 where
+  pub first : 0 < width g.first → place.stage < length (cells_of g.first)
+  pub second : 0 < width g.second → place.stage < length (cells_of g.second)
+  pub third : 0 < width g.third → place.stage < length (cells_of g.third)
 
 -- what the slots hold for all runs, by their numbers
 abbrev pub all_slots : Setting → Groups → List (List ℤ)

@@ -1,5 +1,5 @@
 -- What no frame changes.
-use Rattle.std.specs.Prelude.{◌≡◌, ℕ, ◌+◌, ◌*◌, ◌<◌, ◌≤◌, ◌^◌, ℤ, unsigned_abs, List, length, All}
+use Rattle.std.specs.Prelude.{◌≡◌, ℕ, ◌+◌, ◌*◌, ◌≤◌, ℤ, unsigned_abs, List, length, All}
 use Rattle.wdf_bounds.specs.WordBound.{Fits}
 use Rattle.wdf_loop.specs.declared.setting.Setting.{Setting}
 use Rattle.wdf_loop.specs.Advances.{root_of}

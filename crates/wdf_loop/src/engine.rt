@@ -115,7 +115,7 @@ impl Engine {
     {
         let layout = &self.setting.layout;
         let place = place_shown(&layout.shares, &layout.marks, slot);
-        self.groups.value(run, place, layout.shares.len())
+        self.groups.value(run, place)
     }
 
     /// The up and the down wave of an element in the last frame of a run; each is 0 before the

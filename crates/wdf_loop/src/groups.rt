@@ -1,6 +1,6 @@
 // All runs of an engine.
 ghost use Rattle.std.specs.Prelude.{◌≡◌, ℕ, ◌+◌, ◌<◌, ◌≤◌, pos, length, IfOk};
-ghost use Rattle.wdf_loop.specs.AllRuns.{AreAllSilent, AreAt, HaveAllGone, HaveStages, HoldAccounts, run_count, value_for};
+ghost use Rattle.wdf_loop.specs.AllRuns.{AreAllSilent, AreAt, HaveAllGone, HavePlace, HoldAccounts, run_count, value_for};
 ghost use Rattle.wdf_loop.specs.Settings.{IsPiece, IsSetting};
 
 use crate::place::Place;
@@ -54,10 +54,9 @@ impl Groups {
     }
 
     /// The number at a place of the cells of a run.
-    pub(crate) fn value(&self, run: usize, place: Place, stages: usize) -> i64
+    pub(crate) fn value(&self, run: usize, place: Place) -> i64
         requires run { run < run_count self.now }
-        requires stage { place.stage < stages }
-        requires long { HaveStages stages self.now }
+        requires place { HavePlace place self.now }
         ensures { result ≡ value_for self.now run place }
     {
         let first = self.first.width();

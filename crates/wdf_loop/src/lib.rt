@@ -1,5 +1,9 @@
-//! From load waves to output samples: the load wave in units of the output, as the nearest value
-//! that an output sample holds, and whether that limited it.
+//! The fast engine, and the output rule.
+//!
+//! An [`Engine`] carries out the operations of a schedule for 1 to 8 runs, frame after frame: no wave of
+//! a frame looks for its slot, and yet each slot can be asked for. [`out_sample`] makes a load wave an
+//! output sample: the wave in units of the output, as the nearest value that a sample holds, and whether
+//! that limited it.
 #![tactic(auto)]
 
 mod advance;
@@ -11,6 +15,8 @@ mod chains;
 mod descent;
 mod ends;
 mod engine;
+#[cfg(test)]
+mod engine_tests;
 mod feed;
 mod feeding;
 mod feeds;

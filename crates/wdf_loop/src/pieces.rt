@@ -93,9 +93,7 @@ fn all_pieces(
     let mut at = 0;
     while at < count {
         let next = (count - at).min(setting.piece);
-        piece_at(
-            setting, groups, done, at, next, input, output, ledger,
-        );
+        piece_at(setting, groups, done, at, next, input, output, ledger);
         at += next;
     }
 }

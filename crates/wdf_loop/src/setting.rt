@@ -23,8 +23,8 @@ pub(crate) struct Setting {
     pub(crate) piece: usize,
 }
 
-// How many frames are made at once, where each has so many rows of values and waves: room for these
-// of all runs stays in the processor's nearest store.
+// How many frames are made at once, where each has so many rows of values and waves: at most 2,048
+// rows in all, which are 64 KiB for four runs.
 fn frames_at_once(rows: usize) -> usize
     requires some { 1 ≤ rows }
     requires few { rows ≤ 256 }
@@ -41,11 +41,7 @@ impl Setting {
     /// # Errors
     ///
     /// Where no memory is left.
-    pub(crate) fn new(
-        alloc: Global,
-        schedule: Schedule,
-        plan: Plan,
-    ) -> Result<Setting, AllocError>
+    pub(crate) fn new(alloc: Global, schedule: Schedule, plan: Plan) -> Result<Setting, AllocError>
         requires { Fits schedule.net plan }
         ensures setting { IfOk result (λ t. IsSetting t) }
         ensures schedule { IfOk result (λ t. t.schedule ≡ schedule) }

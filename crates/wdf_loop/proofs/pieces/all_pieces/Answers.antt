@@ -1,4 +1,4 @@
-use Rattle.std.proofs.Common.{rules, ◌≡◌, ℕ, ◌+◌, ◌-◌, ◌<◌, ◌≤◌, length, refl, sym, ◌∙◌, subst, arith}
+use Rattle.std.proofs.Common.{rules, ◌≡◌, ◌+◌, ◌-◌, ◌≤◌, length, refl, ◌∙◌, arith}
 use Rattle.std.proofs.Math.Nat.{le-min, min-le_left}
 use Rattle.wdf_loop.proofs.BlockJoins.{blocks_joined, next_within, none_yet}
 use Rattle.wdf_loop.proofs.pieces.all_pieces.Goals as goal
@@ -30,5 +30,5 @@ loop-at-preserved c =
     let some : 1 ≤ c.min-next.result = let low = le-min one c.requires.engine.setting.some in omega (arith, low, next) in
     let kept : length c.piece_at.new.output ≡ length l.output = search rules in
     let block = blocks_joined t c.args.groups.now l.groups c.piece_at.new.groups c.args.done.now l.done c.piece_at.new.done l.at c.min-next.result c.args.input.now l.output c.piece_at.new.output c.args.ledger.now l.ledger c.piece_at.new.ledger
-        some l.invariant.3 c.piece_at.ensures.block c.piece_at.ensures.before in
+    some l.invariant.3 c.piece_at.ensures.block c.piece_at.ensures.before in
     (most, kept ∙ l.invariant.1, c.piece_at.ensures.engine, block)

@@ -1,4 +1,4 @@
-use Rattle.std.proofs.Common.{◌≡◌, ℕ, ◌+◌, ◌*◌, ◌<◌, ◌≤◌, length, sym, ◌∙◌, subst, arith}
+use Rattle.std.proofs.Common.{ℕ, ◌*◌, ◌≤◌, length, sym, ◌∙◌, subst, arith}
 use Rattle.std.proofs.Math.Nat.{mul_assoc}
 use Rattle.wdf_law.specs.Network.{Network}
 use Rattle.wdf_law.specs.TreeRules.{HasNumbers}

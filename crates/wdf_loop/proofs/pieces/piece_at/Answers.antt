@@ -1,8 +1,7 @@
-use Rattle.std.proofs.Common.{rules, ◌≡◌, ℕ, ◌+◌, ◌-◌, ◌*◌, ◌<◌, ◌≤◌, List, length, take, drop, ap, sym, ◌∙◌, subst, arith}
-use Rattle.std.specs.Prelude.{ℤ, unsigned_abs, All}
+use Rattle.std.proofs.Common.{rules, ◌≡◌, ◌+◌, ◌-◌, ◌*◌, ◌≤◌, List, length, take, drop, sym, ◌∙◌, subst, arith}
+use Rattle.std.specs.Prelude.{ℤ, unsigned_abs}
 use Rattle.std.proofs.Math.Nat.{mul-le-mul}
 use Rattle.std.proofs.lemmas.List.Elements.{All-drop, All-take}
-use borrow.Rule.Slice.PartMut.{put_mid}
 use Rattle.wdf_law.specs.Network.{source_numbers}
 use Rattle.wdf_loop.specs.AllRuns.{run_count}
 use Rattle.wdf_loop.specs.Engines.{IsBlock}
@@ -16,11 +15,11 @@ overflow_mul-samples c =
     let set = c.requires.engine.setting in
     let runs : c.count-runs.result ≤ 8 = let own = c.count-runs.ensures.value in let few = c.requires.engine.few in omega (arith, own, few) in
     let feeds : c.len.result ≤ 2048 =
-        let long = c.len.ensures in
-        let some = set.some in
-        let room = set.room in
-        let more : 1 * (length c.args.setting.now.layout.feeds.items + length c.args.setting.now.parts.absorbing.items) ≤ c.args.setting.now.piece * (length c.args.setting.now.layout.feeds.items + length c.args.setting.now.parts.absorbing.items) = mul-le-mul some (omega arith) in
-        omega (arith, long, more, room) in
+    let long = c.len.ensures in
+    let some = set.some in
+    let room = set.room in
+    let more : 1 * (length c.args.setting.now.layout.feeds.items + length c.args.setting.now.parts.absorbing.items) ≤ c.args.setting.now.piece * (length c.args.setting.now.layout.feeds.items + length c.args.setting.now.parts.absorbing.items) = mul-le-mul some (omega arith) in
+    omega (arith, long, more, room) in
     let most : c.count-runs.result * c.len.result ≤ 8 * 2048 = mul-le-mul runs feeds in
     record { fits = omega (arith, most) }
 

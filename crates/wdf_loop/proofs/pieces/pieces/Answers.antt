@@ -1,4 +1,4 @@
-use Rattle.std.proofs.Common.{◌≡◌, ℕ, ◌<◌, ◌/◌, length, sym, ◌∙◌, subst}
+use Rattle.std.proofs.Common.{◌≡◌, ℕ, ◌<◌, length, sym, ◌∙◌, subst}
 use Rattle.wdf_loop.specs.Engines.{AreFrames, IsBlock, runs_of}
 use Rattle.wdf_loop.specs.KeptEngines.{engine_of}
 use Rattle.wdf_loop.proofs.EngineLemmas.{count_is}

@@ -1,4 +1,4 @@
-use Rattle.std.proofs.Common.{rules, ◌≡◌, ℕ, ◌+◌, ◌*◌, ◌<◌, ◌≤◌, ◌^◌, length, arith}
+use Rattle.std.proofs.Common.{◌≡◌, ◌*◌, ◌<◌, ◌≤◌, length, arith}
 use Rattle.wdf_loop.proofs.PieceLemmas.{few_places, room_taken}
 use Rattle.wdf_loop.proofs.run_group.run_piece.Goals as goal
 

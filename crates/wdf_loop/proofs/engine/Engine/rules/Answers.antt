@@ -1,4 +1,4 @@
-use Rattle.std.proofs.Common.{sym, subst}
+use Rattle.std.proofs.Common.{subst}
 use Rattle.wdf_law.specs.TreeRules.{HasNumbers}
 use Rattle.wdf_loop.specs.Engines.{KeepsPlan}
 use Rattle.wdf_loop.proofs.EngineLemmas.{keeps_plan}

@@ -1,5 +1,4 @@
-use Rattle.std.proofs.Common.{rules, w64, ◌≡◌, ℕ, ◌<◌, ◌≤◌, List, length, sym, ◌∙◌, subst, arith}
-use Rattle.std.specs.Prelude.{ℤ}
+use Rattle.std.proofs.Common.{w64, ◌≡◌, ℕ, ◌<◌, List, length, sym, ◌∙◌, subst, arith}
 use Rattle.std.proofs.lemmas.Int.{to_z-of_z}
 use mir.Val.{SFits}
 use Rattle.wdf_loop.specs.declared.mark.Mark.{Mark}
@@ -9,7 +8,7 @@ use Rattle.wdf_loop.specs.Engines.{EngineValue, runs_of, slot_of}
 use Rattle.wdf_loop.specs.KeptEngines.{engine_of}
 use Rattle.wdf_loop.specs.Layouts.{ShowsSlot, mark_at, share_at}
 use Rattle.wdf_loop.specs.Places.{Holds}
-use Rattle.wdf_loop.proofs.EngineLemmas.{count_is, value_shown}
+use Rattle.wdf_loop.proofs.EngineLemmas.{count_is, have_place, value_shown}
 use Rattle.wdf_loop.proofs.engine.Engine.slot.Goals as goal
 
 pub place_shown-place-requires-clause-shown : goal.place_shown-place-requires-clause-shown
@@ -36,9 +35,14 @@ returns c =
     let small : c.args.slot < t.schedule.slot_count = subst (λ (a : EngineValue). c.args.slot < a.schedule.slot_count) (sym c.self.view_is) c.requires.slot in
     let inside : place.stage < length t.layout.marks.items = subst (λ (marks : List Mark). place.stage < length marks) c.deref-2.ensures.value c.place_shown-place.ensures.within in
     let held : Holds place.field (share_at t.layout.shares.items place.stage) (mark_at t.layout.marks.items place.stage) c.args.slot =
-        subst (λ (shares : List Share). Holds place.field (share_at shares place.stage) (mark_at t.layout.marks.items place.stage) c.args.slot) c.deref.ensures.value
-        (subst (λ (marks : List Mark). Holds place.field (share_at c.deref.result.now place.stage) (mark_at marks place.stage) c.args.slot) c.deref-2.ensures.value c.place_shown-place.ensures.value) in
+    subst (λ (shares : List Share). Holds place.field (share_at shares place.stage) (mark_at t.layout.marks.items place.stage) c.args.slot) c.deref.ensures.value
+    (subst (λ (marks : List Mark). Holds place.field (share_at c.deref.result.now place.stage) (mark_at marks place.stage) c.args.slot) c.deref-2.ensures.value c.place_shown-place.ensures.value) in
     let fits : SFits w64 c.value.result = record { sfits = c.value.type_inv } in
     let own : slot_of (engine_of t g done) c.args.run c.args.slot ≡ slot_of c.args.self.now c.args.run c.args.slot = λ i. slot_of (c.self.view_is i) c.args.run c.args.slot in
     let value : c.value.result ≡ slot_of c.args.self.now c.args.run c.args.slot = c.value.ensures ∙ (value_shown t g done c.args.run c.args.slot place c.self.invariant run small inside held ∙ own) in
     simp to_z-of_z value
+
+pub value-requires-clause-place : goal.value-requires-clause-place
+value-requires-clause-place c =
+    have_place c.self.inside.setting c.self.inside.groups c.self.inside.done c.place_shown-place.result c.self.invariant
+    (subst (λ (marks : List Mark). c.place_shown-place.result.stage < length marks) c.deref-2.ensures.value c.place_shown-place.ensures.within)

@@ -1,5 +1,5 @@
-use Rattle.std.proofs.Common.{◌≡◌, ℕ, ◌+◌, ◌<◌, ◌≤◌, refl, sym, ◌∙◌, subst, arith}
-use mathlib.Core.Logic.{inl, inr}
+use Rattle.std.proofs.Common.{◌≡◌, ℕ, ◌+◌, refl, sym, ◌∙◌, subst, arith}
+use mathlib.Core.Logic.{inr}
 use Rattle.wdf_loop.specs.AllRuns.{run_count, shown_for}
 use Rattle.wdf_loop.specs.RunAccounts.{HoldRuns}
 use Rattle.wdf_loop.specs.RunGroups.{HaveGone, cells_of, shown_in, width}
@@ -49,9 +49,9 @@ returns-clause-gone c =
     let all : c.count-all.result ≡ run_count g = c.count-all.ensures.value in
     let one = subst (λ (n : ℕ). HaveGone (width g.first) 0 t done n count samples c.args.output.now c.block.new.output (cells_of g.first) (cells_of c.block.new.self) c.args.ledger.now c.block.new.ledger) all c.block.ensures.gone in
     let two = subst (λ (n : ℕ). HaveGone (width g.second) (width g.first) t done n count samples c.block.new.output c.block-2.new.output (cells_of g.second) (cells_of c.block-2.new.self) c.block.new.ledger c.block-2.new.ledger) all
-        (subst (λ (first : ℕ). HaveGone (width g.second) first t done c.count-all.result count samples c.block.new.output c.block-2.new.output (cells_of g.second) (cells_of c.block-2.new.self) c.block.new.ledger c.block-2.new.ledger) at c.block-2.ensures.gone) in
+    (subst (λ (first : ℕ). HaveGone (width g.second) first t done c.count-all.result count samples c.block.new.output c.block-2.new.output (cells_of g.second) (cells_of c.block-2.new.self) c.block.new.ledger c.block-2.new.ledger) at c.block-2.ensures.gone) in
     let three = subst (λ (n : ℕ). HaveGone (width g.third) (width g.first + width g.second) t done n count samples c.block-2.new.output c.block-3.new.output (cells_of g.third) (cells_of c.block-3.new.self) c.block-2.new.ledger c.block-3.new.ledger) all
-        (subst (λ (first : ℕ). HaveGone (width g.third) first t done c.count-all.result count samples c.block-2.new.output c.block-3.new.output (cells_of g.third) (cells_of c.block-3.new.self) c.block-2.new.ledger c.block-3.new.ledger) both c.block-3.ensures.gone) in
+    (subst (λ (first : ℕ). HaveGone (width g.third) first t done c.count-all.result count samples c.block-2.new.output c.block-3.new.output (cells_of g.third) (cells_of c.block-3.new.self) c.block-2.new.ledger c.block-3.new.ledger) both c.block-3.ensures.gone) in
     all_gone t done count samples c.args.output.now c.block.new.output c.block-2.new.output c.block-3.new.output g
     (record { first = c.block.new.self; second = c.block-2.new.self; third = c.block-3.new.self }) c.args.ledger.now c.block.new.ledger c.block-2.new.ledger c.block-3.new.ledger
     c.block.ensures.width c.block-2.ensures.width c.block-3.ensures.width c.requires.ledger one two three

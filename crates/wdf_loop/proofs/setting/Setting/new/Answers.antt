@@ -1,4 +1,4 @@
-use Rattle.std.proofs.Common.{◌≡◌, ◌+◌, ◌≤◌, length, subst, arith}
+use Rattle.std.proofs.Common.{◌≤◌, length, subst, arith}
 use Rattle.wdf_law.specs.Network.{Network, elements, source_numbers}
 use Rattle.wdf_loop.proofs.SettingLemmas.{few_absorbing}
 use Rattle.wdf_loop.proofs.setting.Setting.new.Goals as goal
