@@ -1,6 +1,10 @@
+mod BlockLemmas
 mod BoundLemmas
+mod ColumnLemmas
 mod EnergyLemmas
+mod FollowLemmas
 mod FrameLemmas
+mod LedgerBlocks
 mod LedgerLemmas
 mod ListLemmas
 mod NumberLemmas

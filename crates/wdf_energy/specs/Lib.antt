@@ -1,4 +1,5 @@
 pub mod Accounts
+pub mod Blocks
 pub mod LedgerLaws
 pub mod PortLists
 pub mod Totals

@@ -1,5 +1,6 @@
 -- The elements of a ledger as it walks them: lists of their ports.
-use Rattle.std.specs.Prelude.{◌≡◌, ℕ, ◌+◌, ◌<◌, ◌≤◌, Bool, List, [], ◌∷◌, length, map, take, All}
+use Rattle.std.specs.Prelude.{◌≡◌, ℕ, zero, suc, ◌+◌, ◌*◌, ◌<◌, ◌≤◌, ℤ, Bool, List, [], ◌∷◌, length, map, take, All}
+use Rattle.wdf_algebra.specs.Squares.{square}
 use Rattle.wdf_law.specs.Trees.{LeafElement}
 use Rattle.wdf_law.specs.Network.{Network, elements, has_absorbing, has_reactance, reactances, absorbing_numbers}
 use Rattle.wdf_quant.specs.PortBound.{number_at}
@@ -9,6 +10,7 @@ use Rattle.wdf_energy.specs.declared.group.Group.{Group}
 use Rattle.wdf_energy.specs.declared.group.Group.TheVariants.{Absorbing, Reactive}
 use Rattle.wdf_energy.specs.Totals.{part}
 use Rattle.wdf_energy.specs.Accounts.{AccountOf}
+use Rattle.wdf_energy.specs.Blocks.{in_column}
 
 -- what is asked of the elements of a group
 abbrev pub has_of : Group → List LeafElement → ℕ → Bool
@@ -43,3 +45,14 @@ pub record IsLedger (n : Network) (absorbing reactive : List Port) : Type 0 wher
 -- an account as clauses see it
 abbrev pub shown : (absorbing reactive : List Port) → Account → AccountOf
 shown absorbing reactive a = record { incident = a.incident; squares = take (length absorbing) a.squares; state = take (length reactive) a.state }
+
+-- ---- columns of rows
+
+-- what a column has in rows of which each is so many behind the one before
+abbrev pub every_row : (width : ℕ) → List (List ℤ) → (column from : ℕ) → ℕ → ℤ
+every_row width rows column from f = in_column rows column (f * width + from)
+
+-- the sum of the squares of the first of these
+abbrev pub squares_over : (ℕ → ℤ) → (count : ℕ) → ℕ
+squares_over f zero = 0
+squares_over f (suc i) = squares_over f i + square (f i)

@@ -1,9 +1,9 @@
 // The account of a channel: its sums of squares, and the frames that go into them.
-ghost use Rattle.std.specs.Prelude.{◌≡◌, ◌+◌, ◌<◌, ◌≤◌, ◌^◌, length, map, replicate, take, pos, All};
+ghost use Rattle.std.specs.Prelude.{◌≡◌, ℕ, ◌+◌, ◌*◌, ◌<◌, ◌≤◌, ◌^◌, length, map, replicate, take, pos, All, slice_index_or};
 ghost use Rattle.std.specs.List.{sum_by};
 ghost use Rattle.wdf_algebra.specs.Squares.{square};
 ghost use Rattle.wdf_energy.specs.Accounts.{wave_at, with_squares};
-ghost use Rattle.wdf_energy.specs.PortLists.{AreWalked, elems, parts_along};
+ghost use Rattle.wdf_energy.specs.PortLists.{AreWalked, elems, every_row, parts_along, squares_over};
 
 use crate::port::Port;
 
@@ -61,6 +61,50 @@ fn keep_waves(ports: &[Port], downs: &[i64], state: &mut [i64; 128])
     }
 }
 
+// The sum with the squares that a column has in so many rows, the first at `from`, each `width` rows
+// behind the one before.
+fn column_squares<const C: usize>(
+    sum: u128,
+    rows: &[[i64; C]],
+    column: usize,
+    from: usize,
+    width: usize,
+    count: usize,
+) -> u128
+    requires runs { C ≤ 4 }
+    requires column { column < C }
+    requires inside { (f : ℕ) → f < count → f * width + from < length rows.now }
+    requires room { sum + squares_over (every_row width rows.now column from) count < 2 ^ 124 }
+    ensures { result ≡ sum + squares_over (every_row width rows.now column from) count }
+{
+    let mut total = sum;
+    for f in 0..count {
+        total += square(rows[f * width + from][column]);
+    }
+    total
+}
+
+// Adds to each of the first `width` sums the squares that the column has of it: rows are `width` in
+// each of so many frames.
+fn add_columns<const C: usize>(
+    width: usize,
+    column: usize,
+    count: usize,
+    rows: &[[i64; C]],
+    squares: &mut [u128; 128],
+)
+    requires runs { C ≤ 4 }
+    requires column { column < C }
+    requires few { width ≤ 128 }
+    requires rows { length rows.now ≡ count * width }
+    requires room { (i : ℕ) → i < width → slice_index_or squares.old i 0 + squares_over (every_row width rows.now column i) count < 2 ^ 124 }
+    ensures { (i : ℕ) → i < width → slice_index_or squares.new i 0 ≡ slice_index_or squares.old i 0 + squares_over (every_row width rows.now column i) count }
+{
+    for i in 0..width {
+        squares[i] = column_squares::<C>(squares[i], rows, column, i, width, count);
+    }
+}
+
 impl Account {
     // The account before the first frame.
     pub(crate) fn new() -> Account
@@ -93,6 +137,37 @@ impl Account {
     {
         self.incident = with_values(self.incident, values);
         add_squares(absorbing, downs, &mut self.squares);
+        keep_waves(reactive, downs, &mut self.state);
+    }
+
+    // Notes so many frames, of which this column of the rows has the values of the sources and the
+    // waves that the absorbing elements are sent; `downs` are those of all elements in the last.
+    pub(crate) fn note_block<const C: usize>(
+        &mut self,
+        absorbing: &[Port],
+        reactive: &[Port],
+        column: usize,
+        count: usize,
+        values: &[[i64; C]],
+        waves: &[[i64; C]],
+        downs: &[i64],
+    )
+        requires runs { C ≤ 4 }
+        requires column { column < C }
+        requires absorbing { length absorbing.now ≤ 128 }
+        requires reactive { AreWalked (length downs.now) reactive.now }
+        requires waves { length waves.now ≡ count * length absorbing.now }
+        requires incident { self.old.incident + squares_over (every_row 1 values.now column 0) (length values.now) < 2 ^ 124 }
+        requires squares { (i : ℕ) → i < length absorbing.now → i < length self.old.squares
+            → slice_index_or self.old.squares i 0 + squares_over (every_row (length absorbing.now) waves.now column i) count < 2 ^ 124 }
+        ensures incident { self.new.incident ≡ self.old.incident + squares_over (every_row 1 values.now column 0) (length values.now) }
+        ensures places { length self.new.squares ≡ length self.old.squares }
+        ensures squares { (i : ℕ) → i < length absorbing.now
+            → slice_index_or self.new.squares i 0 ≡ slice_index_or self.old.squares i 0 + squares_over (every_row (length absorbing.now) waves.now column i) count }
+        ensures state { take (length reactive.now) self.new.state ≡ map (wave_at downs.now) (elems reactive.now) }
+    {
+        self.incident = column_squares::<C>(self.incident, values, column, 0, 1, values.len());
+        add_columns::<C>(absorbing.len(), column, count, waves, &mut self.squares);
         keep_waves(reactive, downs, &mut self.state);
     }
 

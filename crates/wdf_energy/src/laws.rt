@@ -1,6 +1,7 @@
 //! What the definitions of `specs/` imply: each function is a law, whose contract is proved and
 //! whose body is empty.
 ghost use Rattle.wdf_bounds.specs.WordBound.{Fits};
+ghost use Rattle.wdf_energy.specs.Blocks.{FollowsBlocks};
 ghost use Rattle.wdf_energy.specs.LedgerLaws.{FollowsFrames, TellsRuns};
 ghost use Rattle.wdf_energy.specs.WorkedTotals.{AreWorkedTotals};
 
@@ -40,4 +41,14 @@ pub fn frames_followed(net: &Net, plan: &Plan)
     wdf_law::laws::energy(net);
     wdf_quant::laws::sources_covered(net);
     wdf_quant::laws::whole_walk(net);
+}
+
+/// Where the plan fits the network, an account that holds the frames of a run has room for a block of
+/// frames more, of which the plan has that many left, and holds them then. The account of a block is
+/// that of its frames one after another, as lists of inputs and frames have them.
+pub fn blocks_followed(net: &Net, plan: &Plan)
+    requires { Fits net.now plan.now }
+    ensures { FollowsBlocks net.now plan.now }
+{
+    frames_followed(net, plan);
 }

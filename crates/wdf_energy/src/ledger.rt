@@ -1,7 +1,8 @@
-ghost use Rattle.std.specs.Prelude.{◌≡◌, ◌<◌, ◌≤◌, length, map, IfOk, replicate};
-ghost use Rattle.wdf_law.specs.Network.{elements, numbers_with, source_numbers};
+ghost use Rattle.std.specs.Prelude.{◌≡◌, ◌≢◌, ℕ, ℤ, ◌*◌, ◌<◌, ◌≤◌, length, map, IfOk, replicate};
+ghost use Rattle.wdf_law.specs.Network.{absorbing_numbers, elements, numbers_with, source_numbers};
 ghost use Rattle.wdf_quant.specs.PortBound.{HasLeafNumbers};
 ghost use Rattle.wdf_energy.specs.Accounts.{FitTotals, HasRoom, account_at, noted, noted_in, opened, totals_of, wave_at};
+ghost use Rattle.wdf_energy.specs.Blocks.{AreLast, HasRoomFor, HaveSent, NotesOver, frame_column};
 ghost use Rattle.wdf_energy.specs.PortLists.{AreWalked, has_of, ports_at};
 
 use crate::Totals;
@@ -102,6 +103,46 @@ impl Ledger {
         ensures { self.new ≡ noted_in self.old channel values.now downs.now }
     {
         self.accounts[channel].note(&self.absorbing, &self.reactive, values, downs);
+    }
+
+    /// Notes so many frames of a channel, at least one, which has a column of its own in the rows.
+    /// `values` has a row for each source of each frame, source 0 first, frame after frame; `waves`
+    /// one for each resistor and source, in netlist order, of each frame, with the waves that they
+    /// were sent. `downs` are the down waves of all elements in the last frame, in netlist order.
+    ///
+    /// No sum of squares reaches 2^124.
+    pub fn note_block<const C: usize>(
+        &mut self,
+        channel: usize,
+        column: usize,
+        count: usize,
+        values: &[[i64; C]],
+        waves: &[[i64; C]],
+        downs: &[i64],
+    )
+        requires runs { C ≤ 4 }
+        requires channel { channel < length self.old.accounts }
+        requires column { column < C }
+        requires some { 1 ≤ count }
+        requires values { length values.now ≡ count * length (source_numbers self.old.net) }
+        requires waves { length waves.now ≡ count * length (absorbing_numbers self.old.net) }
+        requires downs { length downs.now ≡ length (elements self.old.net) }
+        requires room { HasRoomFor self.old.net count (frame_column (length (source_numbers self.old.net)) values.now column) waves.now column (account_at self.old channel) }
+        ensures net { self.new.net ≡ self.old.net }
+        ensures channels { length self.new.accounts ≡ length self.old.accounts }
+        ensures others { (k : ℕ) → k ≢ channel → account_at self.new k ≡ account_at self.old k }
+        ensures account { (sent : ℕ → ℕ → ℤ) → HaveSent self.old.net count sent waves.now column → AreLast self.old.net count sent (wave_at downs.now)
+            → NotesOver self.old.net count (frame_column (length (source_numbers self.old.net)) values.now column) sent (account_at self.old channel) (account_at self.new channel) }
+    {
+        self.accounts[channel].note_block::<C>(
+            &self.absorbing,
+            &self.reactive,
+            column,
+            count,
+            values,
+            waves,
+            downs,
+        );
     }
 
     /// Where the energy of a channel's frames went.

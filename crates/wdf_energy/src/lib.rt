@@ -1,4 +1,5 @@
-//! The ledger: where the energy of a run went, in exact sums.
+//! The ledger: where the energy of a run went, in exact sums. It notes single frames, and blocks of
+//! a channel's frames.
 #![tactic(auto)]
 
 mod account;

@@ -1,7 +1,7 @@
-ghost use Rattle.std.specs.Prelude.{◌≡◌, false, [], ◌∷◌, IfOk};
+ghost use Rattle.std.specs.Prelude.{◌≡◌, ◌<◌, false, [], ◌∷◌, length, IfOk};
 ghost use Rattle.wdf_law.specs.Trees.{adaptor_tree, leaf};
 ghost use Rattle.wdf_quant.specs.WorkedWalks.{one_source};
-ghost use Rattle.wdf_energy.specs.Accounts.{opened};
+ghost use Rattle.wdf_energy.specs.Accounts.{FitTotals, account_at, opened, totals_of};
 
 use super::*;
 use crate::port::Port;
@@ -53,6 +53,36 @@ fn channels_have_sums_of_their_own(rt: HostRuntime) -> Result<(), Fail> {
     assert_eq!(rt; last.incident, 0);
     assert_eq!(rt; last.absorbed, 11_771_490);
     assert_eq!(rt; last.stored, 1_473_930);
+    Ok(())
+}
+
+// The pulse as one block, in the second column of rows of two.
+fn note_pulse(ledger: &mut Ledger)
+    requires net { ledger.old.net ≡ one_source }
+    requires accounts { ledger.old.accounts ≡ opened one_source ∷ opened one_source ∷ [] }
+    ensures channel { 0 < length ledger.new.accounts }
+    ensures fits { FitTotals (totals_of ledger.new.net (account_at ledger.new 0)) }
+{
+    let values = [[1, 16384], [2, 0], [3, 0]];
+    let waves = [
+        [4, -5462],
+        [5, 10922],
+        [6, 7281],
+        [7, 7281],
+        [8, -2426],
+        [9, -2426],
+    ];
+    ledger.note_block::<2>(0, 1, 3, &values, &waves, &[-2426, 1214, -2426]);
+}
+
+#[test]
+fn a_block_has_the_sums_of_its_frames(rt: HostRuntime) -> Result<(), Fail> {
+    let mut ledger = new_ledger(rt.alloc())?;
+    note_pulse(&mut ledger);
+    let pulse = ledger.totals(0);
+    assert_eq!(rt; pulse.incident, 268_435_456);
+    assert_eq!(rt; pulse.absorbed, 266_936_716);
+    assert_eq!(rt; pulse.stored, 1_473_930);
     Ok(())
 }
 

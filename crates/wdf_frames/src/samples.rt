@@ -9,15 +9,29 @@ ghost use Rattle.wdf_wav.specs.PcmStream.{samples_of, data_of};
 use wdf_loop::out_sample;
 use wdf_wav::{sample_bytes, sample_of};
 
+// The width is a constant of the code, so that the loop has no choice in it.
+fn decode_at<const BITS: u8>(bytes: &[u8], samples: &mut [i64])
+    requires width { IsSampleWidth BITS }
+    requires whole { length bytes.now ≡ length samples.old * (BITS / 8) }
+    ensures { samples.new ≡ samples_of BITS bytes.now }
+{
+    let size = usize::from(BITS / 8);
+    for k in 0..samples.len() {
+        samples[k] = sample_of(&bytes[k * size..(k + 1) * size], u16::from(BITS));
+    }
+}
+
 /// Gives the values of the samples in `bytes`, of `bits` bits each.
 pub(crate) fn decode(bits: u8, bytes: &[u8], samples: &mut [i64])
     requires width { IsSampleWidth bits }
     requires whole { length bytes.now ≡ length samples.old * (bits / 8) }
     ensures { samples.new ≡ samples_of bits bytes.now }
 {
-    let size = usize::from(bits / 8);
-    for k in 0..samples.len() {
-        samples[k] = sample_of(&bytes[k * size..(k + 1) * size], u16::from(bits));
+    match bits {
+        8 => decode_at::<8>(bytes, samples),
+        16 => decode_at::<16>(bytes, samples),
+        24 => decode_at::<24>(bytes, samples),
+        _ => decode_at::<32>(bytes, samples),
     }
 }
 
@@ -49,6 +63,24 @@ fn encode_one(down: u8, bits: u8, wave: i64, bytes: &mut [u8]) -> bool
     sample.limited
 }
 
+// The width is a constant of the code, so that the loop has no choice in it.
+fn encode_at<const BITS: u8>(down: u8, waves: &[i64], bytes: &mut [u8]) -> u64
+    requires few { down ≤ 33 }
+    requires width { IsSampleWidth BITS }
+    requires room { length bytes.old ≡ length waves.now * (BITS / 8) }
+    ensures bytes { bytes.new ≡ data_of BITS (map (output_of down BITS) waves.now) }
+    ensures limited { result ≡ length (filter (is_limited down BITS) waves.now) }
+    ensures most { result ≤ length waves.now }
+{
+    let size = usize::from(BITS / 8);
+    let mut limited = 0;
+    for k in 0..waves.len() {
+        let is_limited = encode_one(down, BITS, waves[k], &mut bytes[k * size..(k + 1) * size]);
+        limited += u64::from(is_limited);
+    }
+    limited
+}
+
 /// Writes the output samples that load waves come to, and says how many were limited.
 pub(crate) fn encode(down: u8, bits: u8, waves: &[i64], bytes: &mut [u8]) -> u64
     requires few { down ≤ 33 }
@@ -58,11 +90,10 @@ pub(crate) fn encode(down: u8, bits: u8, waves: &[i64], bytes: &mut [u8]) -> u64
     ensures limited { result ≡ length (filter (is_limited down bits) waves.now) }
     ensures most { result ≤ length waves.now }
 {
-    let size = usize::from(bits / 8);
-    let mut limited = 0;
-    for k in 0..waves.len() {
-        let is_limited = encode_one(down, bits, waves[k], &mut bytes[k * size..(k + 1) * size]);
-        limited += u64::from(is_limited);
+    match bits {
+        8 => encode_at::<8>(down, waves, bytes),
+        16 => encode_at::<16>(down, waves, bytes),
+        24 => encode_at::<24>(down, waves, bytes),
+        _ => encode_at::<32>(down, waves, bytes),
     }
-    limited
 }

@@ -11,7 +11,7 @@ use Rattle.std.proofs.lemmas.Nat.{div-add-mod'}
 use Rattle.wdf_law.specs.OutputRule.{scaled_up}
 use Rattle.wdf_bounds.specs.Plans.{PlanOf, greatest_input}
 use Rattle.wdf_loop.specs.Blocks.{frame_values}
-use Rattle.wdf_loop.specs.Engines.{samples_of}
+use Rattle.wdf_loop.specs.RunFrames.{samples_of}
 use Rattle.wdf_loop.specs.Inputs.{AreAllowed, HoldFrames}
 use Rattle.wdf_loop.specs.RunCells.{wave_in}
 use Rattle.wdf_loop.proofs.PlaceLemmas.{ahead, next_whole}

@@ -4,6 +4,7 @@ use Rattle.std.specs.Prelude.{ℤ}
 use mathlib.Core.Logic.{◌⊎◌, inl, inr}
 use Rattle.std.proofs.lemmas.Bool.{cases_lt, cases_eq, cases_Bool, eqb-true, eq-eqb, ne_eqb, and_parts, and_from, not-true, not_from_false}
 use Rattle.wdf_law.specs.Network.{IsNetwork, elements, source_numbers}
+use Rattle.wdf_sched.specs.Meaning.{slot_at}
 use Rattle.wdf_sched.specs.Schedules.{ScheduleValue}
 use Rattle.wdf_loop.specs.declared.chain.Chain.{Chain}
 use Rattle.wdf_loop.specs.declared.feed.Feed.{Feed}
@@ -337,12 +338,24 @@ is_layout s shares marks chains feeds net r c f =
           (is_under (chain_at chains i).first) feeds net (has_leaf_below s r.root marks m (chain_at chains i).first most begins.1) own.sign
           (fed_under s r.root marks feeds m f (chain_at chains i).first most);
       beside = λ j most. either j most (m.beside j most);
+      parts = λ i small. let place = m.every i small in (place.0, (place.1.0, sent i place.0 place.1.0 small place.1.1));
       feeds_count = f.count;
       stages = λ i small. let own = f.each i (omega (arith, small, f.count)) in omega (arith, own.within, m.count);
       places = places s r.root marks feeds m f;
       shown = r.shown;
     }
   where
+    down : (i j : ℕ) → j ≤ r.root → i < count_of s → (mark_at marks j).up ≡ i → IsListed s (mark_at marks j).up (mark_at marks j).down ⊎ (count_of s ≤ (mark_at marks j).up)
+        → (mark_at marks j).down ≡ slot_at s.down_slots i
+    down i j most small is (inl h) = h.1 ∙ ap (slot_at s.down_slots) is
+    down i j most small is (inr h) = absurd (omega (arith, small, is, h))
+
+    sent : (i j : ℕ) → j ≤ r.root → i < count_of s → ((mark_at marks j).up ≡ i) ⊎ ((mark_at marks j).below ≡ i)
+        → ((mark_at marks j).down ≡ slot_at s.down_slots i) ⊎ ((mark_at marks j).onward ≡ slot_at s.down_slots i)
+    sent i j most small (inl is) = inl (down i j most small is (r.marked.beside j most))
+    sent i j most small (inr is) =
+        let own = has_leaf_below s r.root marks r.marked j most (omega (arith, small, is)) in inr (own.1 ∙ ap (slot_at s.down_slots) is)
+
     either : (j : ℕ) → j ≤ r.root → IsListed s (mark_at marks j).up (mark_at marks j).down ⊎ (count_of s ≤ (mark_at marks j).up)
         → IsElement s (mark_at marks j).up (mark_at marks j).down (share_at shares j).sign (fed_by (is_beside j) feeds)
         ⊎ HasChain chains j (share_at shares j).sign

@@ -5,7 +5,6 @@ use mathlib.Core.Logic.{◌⊎◌, inl, inr}
 use Rattle.std.proofs.Math.Nat.{add-mul, mul-le-mul}
 use Rattle.std.proofs.lemmas.Bool.{cases_lt}
 use Rattle.wdf_loop.specs.Inputs.{HoldFrames, HoldsSamples}
-use Rattle.wdf_loop.specs.RunCells.{wave_in}
 
 -- so much more of each of fewer
 pub next_whole : (x most each : ℕ) → x + 1 ≤ most → x * each + each ≤ most * each
@@ -74,17 +73,17 @@ pub others_stay : (f all first runs : ℕ) (before behind : List ℤ) → first 
     → (k run : ℕ) → run < all → (run < first) ⊎ (first + runs ≤ run) → slice_index_or behind (k * all + run) (pos 0) ≡ slice_index_or before (k * all + run) (pos 0)
 others_stay f all first runs before behind within same k run few side = same (k * all + run) (other_place k f all first runs run few within (inr side) (order k f))
 
-pub waves_more : (f all first runs : ℕ) (waves : List (List ℤ)) (row : List ℤ) (before behind : List ℤ) → first + runs ≤ all → row ≡ slice_index_or waves f []
-    → ((k c : ℕ) → k < f → c < runs → slice_index_or before (k * all + (first + c)) (pos 0) ≡ wave_in (slice_index_or waves k []) c)
-    → ((c : ℕ) → c < runs → slice_index_or behind (f * all + first + c) (pos 0) ≡ wave_in row c)
+pub loads_more : (f all first runs : ℕ) (load : ℕ → ℕ → ℤ) (before behind : List ℤ) → first + runs ≤ all
+    → ((k c : ℕ) → k < f → c < runs → slice_index_or before (k * all + (first + c)) (pos 0) ≡ load k c)
+    → ((c : ℕ) → c < runs → slice_index_or behind (f * all + first + c) (pos 0) ≡ load f c)
     → ((k : ℕ) → (k < f * all + first) ⊎ (f * all + first + runs ≤ k) → slice_index_or behind k (pos 0) ≡ slice_index_or before k (pos 0))
-    → (k c : ℕ) → k < f + 1 → c < runs → slice_index_or behind (k * all + (first + c)) (pos 0) ≡ wave_in (slice_index_or waves k []) c
-waves_more f all first runs waves row before behind within is so_far now same k c less small = by (cases_lt k f)
+    → (k c : ℕ) → k < f + 1 → c < runs → slice_index_or behind (k * all + (first + c)) (pos 0) ≡ load k c
+loads_more f all first runs load before behind within so_far now same k c less small = by (cases_lt k f)
   where
-    by : (k < f) ⊎ (f ≤ k) → slice_index_or behind (k * all + (first + c)) (pos 0) ≡ wave_in (slice_index_or waves k []) c
+    by : (k < f) ⊎ (f ≤ k) → slice_index_or behind (k * all + (first + c)) (pos 0) ≡ load k c
     by (inl low) = let h = ahead k f all low in same (k * all + (first + c)) (inl (omega (arith, h, within, small))) ∙ so_far k c low small
     by (inr from) =
         let at : f ≡ k = omega (arith, less, from) in
         let place : f * all + first + c ≡ f * all + (first + c) = omega arith in
-        subst (λ (m : ℕ). slice_index_or behind (m * all + (first + c)) (pos 0) ≡ wave_in (slice_index_or waves m []) c) at
-        (subst (λ (m : ℕ). slice_index_or behind m (pos 0) ≡ wave_in (slice_index_or waves f []) c) place (now c small ∙ (λ i. wave_in (is i) c)))
+        subst (λ (m : ℕ). slice_index_or behind (m * all + (first + c)) (pos 0) ≡ load m c) at
+        (subst (λ (m : ℕ). slice_index_or behind m (pos 0) ≡ load f c) place (now c small))

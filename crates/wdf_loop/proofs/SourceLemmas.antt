@@ -8,7 +8,7 @@ use Rattle.wdf_law.specs.Network.{Network, elements, has_source, source_numbers}
 use Rattle.wdf_loop.specs.Feeds.{source_at}
 
 -- each number of a range is in it
-all_from : (a n : ℕ) → All (λ (k : ℕ). (a ≤ k) × (k < a + n)) (range_with_len a n)
+pub all_from : (a n : ℕ) → All (λ (k : ℕ). (a ≤ k) × (k < a + n)) (range_with_len a n)
 all_from a n k d h =
     let small : k < n = omega (arith, h, length-range_with_len a n) in
     let same = get_or-range_with_len a n k d small in

@@ -1,7 +1,6 @@
 -- Runs of a schedule that go on by a block of frames.
-use Rattle.std.specs.Prelude.{◌≡◌, ℕ, ◌+◌, ◌-◌, ◌<◌, ◌≤◌, ℤ, List, [], length, slice_index_or}
-use Rattle.wdf_law.specs.Network.{elements}
-use Rattle.wdf_law.specs.OutputRule.{is_flipped, load_wave, outlet_element}
+use Rattle.std.specs.Prelude.{◌≡◌, ℕ, ◌+◌, ◌-◌, ◌<◌, ℤ, List, length}
+use Rattle.wdf_law.specs.Network.{absorbing_numbers}
 use Rattle.wdf_law.specs.Run.{source_values}
 use Rattle.wdf_bounds.specs.HeldWords.{IsInput}
 use Rattle.wdf_bounds.specs.Plans.{PlanOf}
@@ -12,25 +11,15 @@ use Rattle.wdf_loop.specs.declared.cell.Cell.{Cell}
 use Rattle.wdf_loop.specs.declared.chain.Chain.{Chain}
 use Rattle.wdf_loop.specs.declared.feed.Feed.{Feed}
 use Rattle.wdf_loop.specs.declared.mark.Mark.{Mark}
-use Rattle.wdf_loop.specs.declared.outlet.Outlet.{Outlet}
 use Rattle.wdf_loop.specs.declared.share.Share.{Share}
-use Rattle.wdf_loop.specs.Blocks.{IsField, frame_values, slot_of}
-use Rattle.wdf_loop.specs.Layouts.{mark_at}
+use Rattle.wdf_loop.specs.Blocks.{frame_values}
 use Rattle.wdf_loop.specs.NextFrames.{IsNext, Stands}
-use Rattle.wdf_loop.specs.RunCells.{wave_in}
+use Rattle.wdf_loop.specs.Parts.{absorbing_at, watched_in}
 use Rattle.wdf_loop.specs.Shows.{AllShow, AreFed}
 
 -- the root is the last stage
 abbrev pub root_of : List Share → ℕ
 root_of shares = length shares - 1
-
--- the outlet's element is sent the value of this number
-pub record IsOutlet (s : ScheduleValue) (shares : List Share) (marks : List Mark) (o : Outlet) : Type 0 where
-  pub field : IsField (root_of shares) shares o.stage o.field
-  pub inside : o.stage ≤ root_of shares
-  pub number : outlet_element s.net < length (elements s.net)
-  pub slot : slot_of o.field (mark_at marks o.stage) ≡ slot_at s.down_slots (outlet_element s.net)
-  pub flip : o.flip ≡ is_flipped (elements s.net) (outlet_element s.net)
 
 -- the run c after so many frames: its cells show values that stand
 pub record IsAt (s : ScheduleValue) (plan : PlanOf) (done : ℕ) (shares : List Share) (marks : List Mark) (chains : List Chain) (feeds : List Feed) (cells : List (List Cell)) (c : ℕ) : Type 0 where
@@ -41,12 +30,13 @@ pub record IsAt (s : ScheduleValue) (plan : PlanOf) (done : ℕ) (shares : List 
   pub fed : AreFed (root_of shares) chains feeds values cells c
 
 -- The run c goes on from these values by so many frames: each is the reference step from the state that the one before left, with
--- the sources' values in its rows, and its load wave is the step's.
+-- the sources' values in its rows. Each frame's rows of waves hold what the elements that absorb are sent.
 pub record GoesOn (s : ScheduleValue) (plan : PlanOf) (done count : ℕ) (shares : List Share) (marks : List Mark) (chains : List Chain) (feeds : List Feed) (before : Slots) (rows : List (List ℤ)) (cells : List (List Cell)) (waves : List (List ℤ)) (c : ℕ) : Type 0 where
   pub slots : ℕ → Slots
   pub begins : slots 0 ≡ before
   pub next : (f : ℕ) → f < count → IsNext s plan (done + f) (frame_values (length feeds) rows f c) (slots f) (slots (f + 1))
-  pub loads : (f : ℕ) (h : f < count) → wave_in (slice_index_or waves f []) c ≡ load_wave s.net (next f h).frame
+  pub sent : (f i : ℕ) → f < count → i < length (absorbing_numbers s.net)
+      → watched_in (length (absorbing_numbers s.net)) waves i f c ≡ slots (f + 1) (slot_at s.down_slots (absorbing_at s.net i))
   pub stands : Stands s plan (done + count) (slots count)
   pub shows : AllShow (root_of shares) shares marks (slots count) cells c
   pub values : List ℤ

@@ -1,23 +1,35 @@
--- What the type of an engine keeps, by its fields.
-use Rattle.std.specs.Prelude.{◌≡◌, ℕ, ◌≤◌, List, length}
-use Rattle.wdf_bounds.specs.Plans.{PlanOf}
-use Rattle.wdf_bounds.specs.WordBound.{Fits}
-use Rattle.wdf_sched.specs.Schedules.{ScheduleValue}
-use Rattle.wdf_loop.specs.declared.cell.Cell.{Cell}
-use Rattle.wdf_loop.specs.declared.chain.Chain.{Chain}
-use Rattle.wdf_loop.specs.declared.feed.Feed.{Feed}
-use Rattle.wdf_loop.specs.declared.mark.Mark.{Mark}
-use Rattle.wdf_loop.specs.declared.outlet.Outlet.{Outlet}
-use Rattle.wdf_loop.specs.declared.share.Share.{Share}
-use Rattle.wdf_loop.specs.Advances.{AllAreAt, IsOutlet}
-use Rattle.wdf_loop.specs.Layouts.{IsLayout}
+-- What the type of an engine keeps, by its fields, and the engine as clauses see it.
+use Rattle.std.specs.Prelude.{ℕ, ◌+◌, ◌*◌, ◌^◌, ◌<◌, ◌≤◌, ℤ, List, length, take, drop}
+use Rattle.wdf_law.specs.Network.{source_numbers}
+use Rattle.wdf_loop.specs.declared.groups.Groups.{Groups}
+use Rattle.wdf_loop.specs.declared.setting.Setting.{Setting}
+use Rattle.wdf_loop.specs.AllRuns.{AreAt, all_slots, run_count}
+use Rattle.wdf_loop.specs.Engines.{EngineValue}
+use Rattle.wdf_loop.specs.Settings.{IsSetting}
 
--- the runs of one group: the plan fits, the lists lie as the schedule's operations do, and each run's cells show values that
--- stand
-pub record IsGroup (runs : ℕ) (s : ScheduleValue) (plan : PlanOf) (done : ℕ) (shares : List Share) (marks : List Mark) (chains : List Chain) (feeds : List Feed) (outlet : Outlet) (cells : List (List Cell)) : Type 0 where
-  pub fits : Fits s.net plan
-  pub layout : IsLayout s shares marks chains feeds
-  pub outlets : IsOutlet s shares marks outlet
-  pub stages : length cells ≡ length shares
-  pub frames : done ≤ plan.frames
-  pub at : AllAreAt runs s plan done shares marks chains feeds cells
+abbrev pub engine_of : Setting → Groups → ℕ → EngineValue
+engine_of t g done = record { schedule = t.schedule; plan = t.plan; done = done; slots = all_slots t g }
+
+-- there are 1 to 8 runs, each of which has come so far
+pub record IsEngine (t : Setting) (g : Groups) (done : ℕ) : Type 0 where
+  pub setting : IsSetting t
+  pub at : AreAt t done g
+  pub frames : done ≤ t.plan.frames
+  pub some : 1 ≤ run_count g
+  pub few : run_count g ≤ 8
+
+-- ---- a piece of a block
+
+-- so many frames from `at` on lie within the samples and the load waves, and the plan has as many left
+pub record IsWithin (t : Setting) (g : Groups) (done at count : ℕ) (input output : List ℤ) : Type 0 where
+  pub samples : (at + count) * (run_count g * length (source_numbers t.schedule.net)) ≤ length input
+  pub places : (at + count) * run_count g ≤ length output
+  pub few : at + count < 2 ^ 64
+  pub left : done + count ≤ t.plan.frames
+
+-- their samples and load waves
+abbrev pub input_from : Setting → Groups → (at count : ℕ) → List ℤ → List ℤ
+input_from t g at count input = take (count * (run_count g * length (source_numbers t.schedule.net))) (drop (at * (run_count g * length (source_numbers t.schedule.net))) input)
+
+abbrev pub output_from : Groups → (at count : ℕ) → List ℤ → List ℤ
+output_from g at count output = take (count * run_count g) (drop (at * run_count g) output)

@@ -145,6 +145,9 @@ pub record IsLayout (s : ScheduleValue) (shares : List Share) (marks : List Mark
   pub beside : (j : ℕ) → j ≤ root
       → IsElement s (mark_at marks j).up (mark_at marks j).down (share_at shares j).sign (fed_by (is_beside j) feeds)
       ⊎ HasChain chains j (share_at shares j).sign
+  -- each of them is sent the wave of its down slot by some stage
+  pub parts : (i : ℕ) → i < length (elements s.net)
+      → (j : ℕ) × ((j ≤ root) × (((mark_at marks j).down ≡ slot_at s.down_slots i) ⊎ ((mark_at marks j).onward ≡ slot_at s.down_slots i)))
   -- the feeds, source 0 first, no two of which have one place
   pub feeds_count : length feeds ≡ length (source_numbers s.net)
   pub stages : (i : ℕ) → i < length feeds → (feed_at feeds i).stage ≤ root

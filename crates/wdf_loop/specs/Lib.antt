@@ -1,4 +1,5 @@
 pub mod Advances
+pub mod AllRuns
 pub mod Blocks
 pub mod Cells
 pub mod Chains
@@ -12,10 +13,15 @@ pub mod Leaves
 pub mod Limiting
 pub mod Marked
 pub mod NextFrames
+pub mod Parts
 pub mod Places
 pub mod Rows
+pub mod RunAccounts
 pub mod RunCells
+pub mod RunFrames
+pub mod RunGroups
 pub mod Runs
+pub mod Settings
 pub mod Shows
 pub mod SlotValues
 pub mod Stages

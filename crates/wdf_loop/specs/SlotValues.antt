@@ -1,7 +1,6 @@
 -- The value of a slot in a run, as its cells show it.
-use Rattle.std.specs.Prelude.{ℕ, ℤ, pos, ◌&&◌, ◌==◌, if◌then◌else◌, List, [], ◌∷◌, length, map}
-use Rattle.std.specs.List.{range_with_len}
-use Rattle.wdf_law.specs.Network.{elements}
+use Rattle.std.specs.Prelude.{ℕ, ℤ, pos, ◌&&◌, ◌==◌, if◌then◌else◌, List, [], ◌∷◌, map}
+use Rattle.wdf_law.specs.Network.{reactances}
 use Rattle.wdf_sched.specs.Meaning.{slot_at}
 use Rattle.wdf_sched.specs.Schedules.{ScheduleValue}
 use Rattle.wdf_loop.specs.declared.cell.Cell.{Cell}
@@ -26,6 +25,9 @@ value_in (s ∷ shares) [] cells c i = pos 0
 value_in (s ∷ shares) (k ∷ marks) [] c i = pos 0
 value_in (s ∷ shares) (k ∷ marks) (row ∷ cells) c i = value_or (value_in shares marks cells c i) s k (cell_in row c) i
 
--- what the elements were sent last, by their numbers
-abbrev pub downs_in : ScheduleValue → List Share → List Mark → List (List Cell) → ℕ → List ℤ
-downs_in s shares marks cells c = map (λ (i : ℕ). value_in shares marks cells c (slot_at s.down_slots i)) (range_with_len 0 (length (elements s.net)))
+-- what the element i was sent last, and the state: what the reactances were, in netlist order
+abbrev pub sent_by : ScheduleValue → List Share → List Mark → List (List Cell) → ℕ → ℕ → ℤ
+sent_by s shares marks cells c i = value_in shares marks cells c (slot_at s.down_slots i)
+
+abbrev pub state_by : ScheduleValue → List Share → List Mark → List (List Cell) → ℕ → List ℤ
+state_by s shares marks cells c = map (sent_by s shares marks cells c) (reactances s.net)

@@ -1,28 +1,31 @@
 // Frame after frame of several runs at once.
 ghost use Rattle.std.specs.Prelude.{◌≡◌, ℕ, ◌+◌, ◌*◌, ◌<◌, ◌≤◌, ◌^◌, length};
-ghost use Rattle.wdf_loop.specs.Blocks.{AllCanRun, HaveRun, IsField};
+ghost use Rattle.wdf_loop.specs.Blocks.{AllCanRun, HaveRun};
 ghost use Rattle.wdf_loop.specs.Frames.{AreSigns};
 ghost use Rattle.wdf_loop.specs.Layouts.{IsRowOfChains, feed_at};
+ghost use Rattle.wdf_loop.specs.Parts.{AreWithin};
 ghost use Rattle.wdf_loop.specs.Runs.{AreShares};
 ghost use Rattle.wdf_loop.specs.Shows.{AreSmallValues};
 
 use crate::cell::Cell;
 use crate::chain::Chain;
 use crate::feed::Feed;
-use crate::outlet::Outlet;
-use crate::runs;
+use crate::part::Part;
 use crate::share::Share;
 use crate::step::step;
+use crate::watch::watch;
 
-/// As many frames as there are rows of `waves`, which become their load waves. `values` has a row
-/// for each source of each frame, source 0 first, frame after frame. The root is the last stage.
+/// The next `count` frames. `values` has a row for each source of each frame, source 0 first, frame
+/// after frame; `waves` comes to have one for each watched part of each frame, with what it is sent.
+/// The root is the last stage.
 pub(crate) fn block<const K: u32, const C: usize>(
     shares: &[Share],
     chains: &[Chain],
     feeds: &[Feed],
-    outlet: Outlet,
+    watched: &[Part],
     cells: &mut [[Cell; C]],
     root: usize,
+    count: usize,
     values: &[[i64; C]],
     waves: &mut [[i64; C]],
 )
@@ -34,16 +37,17 @@ pub(crate) fn block<const K: u32, const C: usize>(
     requires shares { AreShares (2 ^ K) shares.now }
     requires chains { IsRowOfChains root chains.now }
     requires signs { AreSigns chains.now }
-    requires sources { length values.now ≡ length waves.old * length feeds.now }
+    requires sources { length values.now ≡ count * length feeds.now }
     requires feeds { (i : ℕ) → i < length feeds.now → (feed_at feeds.now i).stage ≤ root }
-    requires outlet { IsField root shares.now outlet.stage outlet.field }
-    requires inside { outlet.stage ≤ root }
+    requires watched { length waves.old ≡ count * length watched.now }
+    requires inside { AreWithin (root + 1) watched.now }
     requires small { AreSmallValues C values.now }
-    requires can { AllCanRun C (2 ^ K) root shares.now chains.now feeds.now outlet (length waves.old) cells.old values.now }
-    ensures { HaveRun C (2 ^ K) root shares.now chains.now feeds.now outlet (length waves.old) (length waves.old) cells.old values.now cells.new waves.new }
+    requires can { AllCanRun C (2 ^ K) root shares.now chains.now feeds.now count cells.old values.now }
+    ensures { HaveRun C (2 ^ K) root shares.now chains.now feeds.now watched.now count count cells.old values.now cells.new waves.new }
 {
     let sources = feeds.len();
-    for f in 0..waves.len() {
+    let parts = watched.len();
+    for f in 0..count {
         let at = f * sources;
         step::<K, C>(
             shares,
@@ -53,6 +57,6 @@ pub(crate) fn block<const K: u32, const C: usize>(
             root,
             &values[at..at + sources],
         );
-        runs::load::<C>(&cells[outlet.stage as usize], outlet, &mut waves[f]);
+        watch::<C>(watched, cells, waves, f * parts);
     }
 }

@@ -2,11 +2,13 @@ ghost use Rattle.std.specs.Prelude.{◌≡◌, ◌+◌, ◌*◌, ◌<◌, ◌≤
 ghost use Rattle.wdf_algebra.specs.JunctionValues.{parallel_value};
 ghost use Rattle.wdf_algebra.specs.Truncation.{trunc};
 ghost use Rattle.wdf_loop.specs.Cells.{AreWords, CanBegin, CanFall, CanRise, IsWord, bottom, fallen, fallen_parallel, fallen_series, given, reflects, risen, risen_parallel, risen_series, turned, value_of, wave_up};
+ghost use Rattle.wdf_loop.specs.Parts.{sent_to};
 
 use crate::feed::Feed;
 use crate::field::Field;
+use crate::part::Part;
 use crate::share::Share;
-use crate::sums::{minus, plus, reflected, signed, weighed};
+use crate::sums::{brought_back, minus, plus, reflected, signed, weighed};
 use wdf_algebra::{Rounded, parallel_part, root_part, series_first, series_second, times};
 
 /// The numbers of a junction in one run, those of its last frame; all but `raw` are waves. One part
@@ -64,6 +66,13 @@ impl Cell {
         }
     }
 
+    /// What a part of its stage is sent.
+    pub(crate) fn sent(&self, part: Part) -> i64
+        ensures { result ≡ sent_to part self.now }
+    {
+        if part.beside { self.down } else { self.onward }
+    }
+
     /// Feeds a source of the stage with its value.
     pub(crate) fn give(&mut self, feed: Feed, value: i64)
         requires { unsigned_abs value ≤ 2 ^ 60 }
@@ -100,7 +109,7 @@ impl Cell {
         self.up = self.reflected::<K>(share);
         self.below = wave;
         self.raw = plus(weighed::<K>(share.m, self.up), weighed::<K>(share.n, wave));
-        Rounded::by_power::<K>(self.raw).truncated()
+        brought_back::<K>(self.raw)
     }
 
     /// A junction on the way up, the tree below reflecting `wave`: the wave that it reflects.

@@ -4,8 +4,6 @@ ghost use Rattle.wdf_algebra.specs.Truncation.{trunc};
 ghost use Rattle.wdf_law.specs.OutputRule.{limited, output_of};
 ghost use Rattle.wdf_loop.specs.Limiting.{is_limited, is_outside};
 
-use wdf_algebra::quotient;
-
 /// An output sample.
 #[derive(Clone, Copy, Debug, PartialEq, Eq)]
 pub struct Limited {
@@ -40,16 +38,16 @@ fn output_step(down: u8) -> i64
     1 << down
 }
 
-// The wave in units of the output, towards zero. It is any number, and the least has no magnitude
-// that could be shifted.
+// The wave in units of the output, towards zero: what a negative one is short of a whole step is added
+// before it is rounded down.
 fn scaled(w: i64, down: u8) -> i64
     requires { down ≤ 33 }
     ensures { result ≡ trunc w (2 ^ down) }
 {
-    if w == i64::MIN {
-        w / output_step(down)
+    if w < 0 {
+        (w + (output_step(down) - 1)) >> down
     } else {
-        quotient(w, u32::from(down))
+        w >> down
     }
 }
 

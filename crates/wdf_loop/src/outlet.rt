@@ -1,38 +1,43 @@
-ghost use Rattle.wdf_loop.specs.Advances.{IsOutlet};
-ghost use Rattle.wdf_loop.specs.Layouts.{IsLayout};
+ghost use Rattle.std.specs.Prelude.{◌≡◌, length};
+ghost use Rattle.std.specs.Prelude.{filter};
+ghost use Rattle.std.specs.List.{range_with_len};
+ghost use Rattle.wdf_law.specs.Network.{elements, has_absorbing};
+ghost use Rattle.wdf_loop.specs.Parts.{IsOutlet};
 
-use crate::field::Field;
-use crate::layout::Layout;
 use crate::leaf::flip_at;
-use crate::place::place_shown;
-use wdf_sched::Schedule;
+use wdf_law::Net;
 
-/// Where the load wave stands.
+/// Which wave is the load wave.
 #[derive(Clone, Copy, Debug, PartialEq, Eq)]
 pub(crate) struct Outlet {
-    /// The stage whose cells have it.
-    pub(crate) stage: u16,
-    /// Which of a cell's numbers it is.
-    pub(crate) field: Field,
-    /// Whether it is negated.
+    /// The place of its element among those that absorb.
+    pub(crate) place: usize,
+    /// Whether it is that wave negated.
     pub(crate) flip: bool,
 }
 
-/// The outlet of a schedule in its layout.
-pub(crate) fn outlet_of(schedule: &Schedule, layout: &Layout) -> Outlet
-    requires { IsLayout schedule.now layout.now.shares.items layout.now.marks.items layout.now.chains.items layout.now.feeds.items }
-    ensures { IsOutlet schedule.now layout.now.shares.items layout.now.marks.items result }
+// How many elements with a lower number absorb.
+fn absorbing_before(net: &Net, number: u32) -> usize
+    ensures { result ≡ length (filter (has_absorbing (elements net.now)) (range_with_len 0 number)) }
 {
-    schedule.rules();
-    let net = schedule.net();
+    let mut count = 0;
+    for i in 0..number {
+        if net.has_absorbing(i) {
+            count += 1;
+        }
+    }
+    count
+}
+
+/// The outlet of a network.
+pub(crate) fn outlet_of(net: &Net) -> Outlet
+    ensures { IsOutlet net.now result }
+{
     net.rules();
     wdf_law::laws::numbers(net);
     let number = net.outlet_element();
-    let slot = schedule.leaf_slots(number).down;
-    let place = place_shown(&layout.shares, &layout.marks, slot);
     Outlet {
-        stage: place.stage as u16,
-        field: place.field,
+        place: absorbing_before(net, number),
         flip: flip_at(net, number),
     }
 }

@@ -25,9 +25,12 @@ pub(crate) fn climb<const K: u32, const C: usize>(
     ensures climb { HaveClimbed C (2 ^ K) shares.now first end end cells.old waves.old cells.new waves.new }
     ensures others { KeepsOthers first end cells.old cells.new }
 {
+    // In a place of their own the waves need not be stored at each stage.
+    let mut held = *waves;
     for j in first..end {
-        runs::rise::<K, C>(&mut cells[j], shares[j], waves);
+        runs::rise::<K, C>(&mut cells[j], shares[j], &mut held);
     }
+    *waves = held;
 }
 
 /// They on the way down: `waves`, which the top is sent, become what the elements at the bottom
@@ -50,8 +53,10 @@ pub(crate) fn descend<const K: u32, const C: usize>(
     ensures descend { HaveDescended C (2 ^ K) shares.now first end first cells.old waves.old cells.new waves.new }
     ensures others { KeepsOthers first end cells.old cells.new }
 {
+    let mut held = *waves;
     for done in 0..end - first {
         let j = end - 1 - done;
-        runs::fall::<K, C>(&mut cells[j], shares[j], waves);
+        runs::fall::<K, C>(&mut cells[j], shares[j], &mut held);
     }
+    *waves = held;
 }

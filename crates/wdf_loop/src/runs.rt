@@ -1,14 +1,13 @@
 // A stage of several runs at once: a cell and a wave for each.
 ghost use Rattle.std.specs.Prelude.{◌≡◌, ℕ, ◌+◌, ◌<◌, ◌≤◌, ◌^◌, unsigned_abs};
-ghost use Rattle.wdf_law.specs.Elements.{signed};
-ghost use Rattle.wdf_loop.specs.Cells.{bottom, fed_with, given, value_of};
+ghost use Rattle.wdf_loop.specs.Cells.{bottom, fed_with, given};
+ghost use Rattle.wdf_loop.specs.Parts.{sent_to};
 ghost use Rattle.wdf_loop.specs.RunCells.{AllCanBegin, AllCanFall, AllCanRise, Falls, InEach, Rises, Turns, cell_in, wave_in};
 
 use crate::cell::Cell;
 use crate::feed::Feed;
-use crate::outlet::Outlet;
+use crate::part::Part;
 use crate::share::Share;
-use crate::sums::signed;
 
 /// A junction on the way up, the trees below reflecting `waves`, which become what it reflects.
 pub(crate) fn rise<const K: u32, const C: usize>(
@@ -99,12 +98,11 @@ pub(crate) fn give<const C: usize>(row: &mut [Cell; C], feed: Feed, values: &[i6
     }
 }
 
-/// The load waves: what the outlet's element is sent, negated where its leaf is flipped.
-pub(crate) fn load<const C: usize>(row: &[Cell; C], outlet: Outlet, waves: &mut [i64; C])
-    requires { (c : ℕ) → c < C → unsigned_abs (value_of outlet.field (cell_in row.now c)) ≤ 2 ^ 60 }
-    ensures { (c : ℕ) → c < C → wave_in waves.new c ≡ signed outlet.flip (value_of outlet.field (cell_in row.now c)) }
+/// What a part of the row's stage is sent.
+pub(crate) fn sent<const C: usize>(row: &[Cell; C], part: Part, waves: &mut [i64; C])
+    ensures { (c : ℕ) → c < C → wave_in waves.new c ≡ sent_to part (cell_in row.now c) }
 {
     for c in 0..C {
-        waves[c] = signed(outlet.flip, row[c].value(outlet.field));
+        waves[c] = row[c].sent(part);
     }
 }

@@ -1,5 +1,6 @@
 // Sums and products that fit.
-ghost use Rattle.std.specs.Prelude.{◌≡◌, ◌+◌, ◌*◌, ◌<◌, ◌≤◌, ◌^◌, pos, ◌+ℤ◌, ◌-ℤ◌, ◌*ℤ◌, unsigned_abs};
+ghost use Rattle.std.specs.Prelude.{◌≡◌, ◌+◌, ◌*◌, ◌<◌, ◌≤◌, ◌^◌, pos, ◌+ℤ◌, ◌-ℤ◌, ◌*ℤ◌, ◌≤ℤ◌, unsigned_abs};
+ghost use Rattle.wdf_algebra.specs.Truncation.{trunc};
 ghost use Rattle.wdf_law.specs.Elements.{signed};
 ghost use Rattle.wdf_loop.specs.Cells.{IsWord};
 
@@ -49,4 +50,22 @@ pub(crate) fn weighed<const K: u32>(m: u32, z: i64) -> i64
     ensures size { unsigned_abs result ≤ 2 ^ K * unsigned_abs z }
 {
     times(i64::from(m), z)
+}
+
+// A whole unit, in units of 2^-K.
+fn unit<const K: u32>() -> i64
+    requires { K ≤ 20 }
+    ensures value { result ≡ pos (2 ^ K) }
+    ensures positive { pos 1 ≤ℤ result }
+{
+    1 << K
+}
+
+/// `x`, which is counted in units of `2^-K`, brought back to whole units. The divisor is a constant of
+/// the code, which becomes a shift.
+pub(crate) fn brought_back<const K: u32>(x: i64) -> i64
+    requires { K ≤ 20 }
+    ensures { result ≡ trunc x (2 ^ K) }
+{
+    x / unit::<K>()
 }

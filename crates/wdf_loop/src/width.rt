@@ -1,8 +1,9 @@
 // The width of the multipliers as a constant of the code, chosen once a block.
 ghost use Rattle.std.specs.Prelude.{◌≡◌, ℕ, ◌+◌, ◌*◌, ◌<◌, ◌≤◌, ◌^◌, length};
-ghost use Rattle.wdf_loop.specs.Blocks.{AllCanRun, HaveRun, IsField};
+ghost use Rattle.wdf_loop.specs.Blocks.{AllCanRun, HaveRun};
 ghost use Rattle.wdf_loop.specs.Frames.{AreSigns};
 ghost use Rattle.wdf_loop.specs.Layouts.{IsRowOfChains, feed_at};
+ghost use Rattle.wdf_loop.specs.Parts.{AreWithin};
 ghost use Rattle.wdf_loop.specs.Runs.{AreShares};
 ghost use Rattle.wdf_loop.specs.Shows.{AreSmallValues};
 
@@ -10,7 +11,7 @@ use crate::block::block;
 use crate::cell::Cell;
 use crate::chain::Chain;
 use crate::feed::Feed;
-use crate::outlet::Outlet;
+use crate::part::Part;
 use crate::share::Share;
 
 // The same with the width as a constant.
@@ -19,9 +20,10 @@ fn block_at<const K: u32, const C: usize>(
     shares: &[Share],
     chains: &[Chain],
     feeds: &[Feed],
-    outlet: Outlet,
+    watched: &[Part],
     cells: &mut [[Cell; C]],
     root: usize,
+    count: usize,
     values: &[[i64; C]],
     waves: &mut [[i64; C]],
 )
@@ -34,15 +36,17 @@ fn block_at<const K: u32, const C: usize>(
     requires shares { AreShares (2 ^ k) shares.now }
     requires chains { IsRowOfChains root chains.now }
     requires signs { AreSigns chains.now }
-    requires sources { length values.now ≡ length waves.old * length feeds.now }
+    requires sources { length values.now ≡ count * length feeds.now }
     requires feeds { (i : ℕ) → i < length feeds.now → (feed_at feeds.now i).stage ≤ root }
-    requires outlet { IsField root shares.now outlet.stage outlet.field }
-    requires inside { outlet.stage ≤ root }
+    requires watched { length waves.old ≡ count * length watched.now }
+    requires inside { AreWithin (root + 1) watched.now }
     requires small { AreSmallValues C values.now }
-    requires can { AllCanRun C (2 ^ k) root shares.now chains.now feeds.now outlet (length waves.old) cells.old values.now }
-    ensures { HaveRun C (2 ^ k) root shares.now chains.now feeds.now outlet (length waves.old) (length waves.old) cells.old values.now cells.new waves.new }
+    requires can { AllCanRun C (2 ^ k) root shares.now chains.now feeds.now count cells.old values.now }
+    ensures { HaveRun C (2 ^ k) root shares.now chains.now feeds.now watched.now count count cells.old values.now cells.new waves.new }
 {
-    block::<K, C>(shares, chains, feeds, outlet, cells, root, values, waves);
+    block::<K, C>(
+        shares, chains, feeds, watched, cells, root, count, values, waves,
+    );
 }
 
 /// A block of frames where the multipliers are counted in units of 2^-k.
@@ -51,9 +55,10 @@ pub(crate) fn block_of<const C: usize>(
     shares: &[Share],
     chains: &[Chain],
     feeds: &[Feed],
-    outlet: Outlet,
+    watched: &[Part],
     cells: &mut [[Cell; C]],
     root: usize,
+    count: usize,
     values: &[[i64; C]],
     waves: &mut [[i64; C]],
 )
@@ -65,34 +70,74 @@ pub(crate) fn block_of<const C: usize>(
     requires shares { AreShares (2 ^ k) shares.now }
     requires chains { IsRowOfChains root chains.now }
     requires signs { AreSigns chains.now }
-    requires sources { length values.now ≡ length waves.old * length feeds.now }
+    requires sources { length values.now ≡ count * length feeds.now }
     requires feeds { (i : ℕ) → i < length feeds.now → (feed_at feeds.now i).stage ≤ root }
-    requires outlet { IsField root shares.now outlet.stage outlet.field }
-    requires inside { outlet.stage ≤ root }
+    requires watched { length waves.old ≡ count * length watched.now }
+    requires inside { AreWithin (root + 1) watched.now }
     requires small { AreSmallValues C values.now }
-    requires can { AllCanRun C (2 ^ k) root shares.now chains.now feeds.now outlet (length waves.old) cells.old values.now }
-    ensures { HaveRun C (2 ^ k) root shares.now chains.now feeds.now outlet (length waves.old) (length waves.old) cells.old values.now cells.new waves.new }
+    requires can { AllCanRun C (2 ^ k) root shares.now chains.now feeds.now count cells.old values.now }
+    ensures { HaveRun C (2 ^ k) root shares.now chains.now feeds.now watched.now count count cells.old values.now cells.new waves.new }
 {
     match k {
-        1 => block_at::<1, C>(k, shares, chains, feeds, outlet, cells, root, values, waves),
-        2 => block_at::<2, C>(k, shares, chains, feeds, outlet, cells, root, values, waves),
-        3 => block_at::<3, C>(k, shares, chains, feeds, outlet, cells, root, values, waves),
-        4 => block_at::<4, C>(k, shares, chains, feeds, outlet, cells, root, values, waves),
-        5 => block_at::<5, C>(k, shares, chains, feeds, outlet, cells, root, values, waves),
-        6 => block_at::<6, C>(k, shares, chains, feeds, outlet, cells, root, values, waves),
-        7 => block_at::<7, C>(k, shares, chains, feeds, outlet, cells, root, values, waves),
-        8 => block_at::<8, C>(k, shares, chains, feeds, outlet, cells, root, values, waves),
-        9 => block_at::<9, C>(k, shares, chains, feeds, outlet, cells, root, values, waves),
-        10 => block_at::<10, C>(k, shares, chains, feeds, outlet, cells, root, values, waves),
-        11 => block_at::<11, C>(k, shares, chains, feeds, outlet, cells, root, values, waves),
-        12 => block_at::<12, C>(k, shares, chains, feeds, outlet, cells, root, values, waves),
-        13 => block_at::<13, C>(k, shares, chains, feeds, outlet, cells, root, values, waves),
-        14 => block_at::<14, C>(k, shares, chains, feeds, outlet, cells, root, values, waves),
-        15 => block_at::<15, C>(k, shares, chains, feeds, outlet, cells, root, values, waves),
-        16 => block_at::<16, C>(k, shares, chains, feeds, outlet, cells, root, values, waves),
-        17 => block_at::<17, C>(k, shares, chains, feeds, outlet, cells, root, values, waves),
-        18 => block_at::<18, C>(k, shares, chains, feeds, outlet, cells, root, values, waves),
-        19 => block_at::<19, C>(k, shares, chains, feeds, outlet, cells, root, values, waves),
-        _ => block_at::<20, C>(k, shares, chains, feeds, outlet, cells, root, values, waves),
+        1 => block_at::<1, C>(
+            k, shares, chains, feeds, watched, cells, root, count, values, waves,
+        ),
+        2 => block_at::<2, C>(
+            k, shares, chains, feeds, watched, cells, root, count, values, waves,
+        ),
+        3 => block_at::<3, C>(
+            k, shares, chains, feeds, watched, cells, root, count, values, waves,
+        ),
+        4 => block_at::<4, C>(
+            k, shares, chains, feeds, watched, cells, root, count, values, waves,
+        ),
+        5 => block_at::<5, C>(
+            k, shares, chains, feeds, watched, cells, root, count, values, waves,
+        ),
+        6 => block_at::<6, C>(
+            k, shares, chains, feeds, watched, cells, root, count, values, waves,
+        ),
+        7 => block_at::<7, C>(
+            k, shares, chains, feeds, watched, cells, root, count, values, waves,
+        ),
+        8 => block_at::<8, C>(
+            k, shares, chains, feeds, watched, cells, root, count, values, waves,
+        ),
+        9 => block_at::<9, C>(
+            k, shares, chains, feeds, watched, cells, root, count, values, waves,
+        ),
+        10 => block_at::<10, C>(
+            k, shares, chains, feeds, watched, cells, root, count, values, waves,
+        ),
+        11 => block_at::<11, C>(
+            k, shares, chains, feeds, watched, cells, root, count, values, waves,
+        ),
+        12 => block_at::<12, C>(
+            k, shares, chains, feeds, watched, cells, root, count, values, waves,
+        ),
+        13 => block_at::<13, C>(
+            k, shares, chains, feeds, watched, cells, root, count, values, waves,
+        ),
+        14 => block_at::<14, C>(
+            k, shares, chains, feeds, watched, cells, root, count, values, waves,
+        ),
+        15 => block_at::<15, C>(
+            k, shares, chains, feeds, watched, cells, root, count, values, waves,
+        ),
+        16 => block_at::<16, C>(
+            k, shares, chains, feeds, watched, cells, root, count, values, waves,
+        ),
+        17 => block_at::<17, C>(
+            k, shares, chains, feeds, watched, cells, root, count, values, waves,
+        ),
+        18 => block_at::<18, C>(
+            k, shares, chains, feeds, watched, cells, root, count, values, waves,
+        ),
+        19 => block_at::<19, C>(
+            k, shares, chains, feeds, watched, cells, root, count, values, waves,
+        ),
+        _ => block_at::<20, C>(
+            k, shares, chains, feeds, watched, cells, root, count, values, waves,
+        ),
     }
 }

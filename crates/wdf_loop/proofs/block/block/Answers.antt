@@ -1,25 +1,23 @@
 use Rattle.std.proofs.Common.{◌≡◌, ℕ, ◌+◌, ◌-◌, ◌*◌, ◌<◌, ◌≤◌, ◌^◌, length, take, drop, refl, sym, ◌∙◌, subst, arith}
-use Rattle.std.specs.Prelude.{unsigned_abs}
-use Rattle.std.proofs.lemmas.List.{length-drop, length-set, length-take-le}
+use Rattle.std.proofs.lemmas.List.{length-drop, length-take-le}
 use Rattle.wdf_loop.specs.Blocks.{HaveRun}
-use Rattle.wdf_loop.specs.Cells.{value_of}
-use Rattle.wdf_loop.specs.Runs.{cell_at}
+use Rattle.wdf_loop.specs.Parts.{AreWithin}
 use Rattle.wdf_loop.specs.Shows.{AreSmallValues}
 use Rattle.wdf_loop.specs.Steps.{AllCanStep, HaveStepped}
-use Rattle.wdf_loop.proofs.BlockLemmas.{all_can_step, frame_inside, frame_small, load_word, run_more, run_none}
+use Rattle.wdf_loop.proofs.BlockLemmas.{all_can_step, frame_inside, frame_small, run_more, run_none}
 use Rattle.wdf_loop.proofs.block.block.Goals as goal
 
 pub loop-f-init : goal.loop-f-init
 loop-f-init g c = record {
   long = refl;
   waves_long = refl;
-  run = run_none g.row.C (2 ^ g.row.K) c.args.root c.args.shares.now c.args.chains.now c.args.feeds.now c.args.outlet (length c.args.waves.now) c.args.cells.now c.args.values.now c.args.waves.now;
+  run = run_none g.row.C (2 ^ g.row.K) c.args.root c.args.shares.now c.args.chains.now c.args.feeds.now c.args.watched.now c.args.count c.args.cells.now c.args.values.now c.args.waves.now;
 }
 
 pub step-requires : goal.step-requires
 step-requires g c =
-    let less : c.loop-f.f < length c.args.waves.now = c.loop-f-test.true in
-    let inside = frame_inside c.loop-f.f (length c.args.waves.now) (length c.args.feeds.now) (length c.args.values.now) less c.requires.sources in
+    let less : c.loop-f.f < c.args.count = c.loop-f-test.true in
+    let inside = frame_inside c.loop-f.f c.args.count (length c.args.feeds.now) (length c.args.values.now) less c.requires.sources in
     let size : c.loop-f.f * length c.args.feeds.now + length c.args.feeds.now - c.loop-f.f * length c.args.feeds.now ≡ length c.args.feeds.now = omega arith in
     let rest : length (drop (c.loop-f.f * length c.args.feeds.now) c.args.values.now) ≡ length c.args.values.now - c.loop-f.f * length c.args.feeds.now = length-drop (c.loop-f.f * length c.args.feeds.now) c.args.values.now in
     let long : length (take (length c.args.feeds.now) (drop (c.loop-f.f * length c.args.feeds.now) c.args.values.now)) ≡ length c.args.feeds.now =
@@ -28,7 +26,7 @@ step-requires g c =
     let small = subst (λ (m : ℕ). AreSmallValues g.row.C (take m (drop (c.loop-f.f * length c.args.feeds.now) c.args.values.now))) (sym size)
     (frame_small g.row.C (length c.args.feeds.now) c.loop-f.f c.args.values.now inside c.requires.small) in
     let can = subst (λ (m : ℕ). AllCanStep g.row.C (2 ^ g.row.K) c.args.root c.args.shares.now c.args.chains.now c.args.feeds.now c.loop-f.cells (take m (drop (c.loop-f.f * length c.args.feeds.now) c.args.values.now))) (sym size)
-    (all_can_step g.row.C (2 ^ g.row.K) c.args.root c.args.shares.now c.args.chains.now c.args.feeds.now c.args.outlet (length c.args.waves.now) c.loop-f.f c.args.cells.now c.loop-f.cells c.args.values.now c.loop-f.waves less
+    (all_can_step g.row.C (2 ^ g.row.K) c.args.root c.args.shares.now c.args.chains.now c.args.feeds.now c.args.watched.now c.args.count c.loop-f.f c.args.cells.now c.loop-f.cells c.args.values.now c.loop-f.waves less
     c.requires.can c.loop-f.invariant.run) in
     let stages : length c.loop-f.cells ≡ c.args.root + 1 = c.loop-f.invariant.long ∙ c.requires.stages in
     let runs : g.row.C ≤ 4 = c.requires.runs in
@@ -36,36 +34,33 @@ step-requires g c =
     let two : g.row.C * 8 < 9223372036854775808 = omega arith in
     (one, (two, (c.requires.some, (c.requires.few, (c.requires.runs, (stages, (c.requires.each, (c.requires.shares, (c.requires.chains, (c.requires.signs, (sources, (c.requires.feeds, (small, can)))))))))))))
 
-pub load-requires : goal.load-requires
-load-requires g c =
-    let less : c.loop-f.f < length c.args.waves.now = c.loop-f-test.true in
-    let size : c.loop-f.f * length c.args.feeds.now + length c.args.feeds.now - c.loop-f.f * length c.args.feeds.now ≡ length c.args.feeds.now = omega arith in
-    let stepped = subst (λ (m : ℕ). HaveStepped g.row.C (2 ^ g.row.K) c.args.root c.args.shares.now c.args.chains.now c.args.feeds.now c.loop-f.cells (take m (drop (c.loop-f.f * length c.args.feeds.now) c.args.values.now)) c.step.new.cells)
-    size c.step.ensures in
-    let words : (c' : ℕ) → c' < g.row.C → unsigned_abs (value_of c.args.outlet.field (cell_at c.step.new.cells c.args.outlet.stage c')) ≤ 2 ^ 60 =
-    load_word g.row.C (2 ^ g.row.K) c.args.root c.args.shares.now c.args.chains.now c.args.feeds.now c.args.outlet (length c.args.waves.now) c.loop-f.f c.args.cells.now c.loop-f.cells c.step.new.cells c.args.values.now
-    c.loop-f.waves less c.requires.outlet c.requires.can c.loop-f.invariant.run stepped in
+pub watch-requires : goal.watch-requires
+watch-requires g c =
+    let less : c.loop-f.f < c.args.count = c.loop-f-test.true in
+    let stages : length c.step.new.cells ≡ c.args.root + 1 = c.step.auto.cells ∙ (c.loop-f.invariant.long ∙ c.requires.stages) in
+    let inside = subst (λ (n : ℕ). AreWithin n c.args.watched.now) (sym stages) c.requires.inside in
+    let room = frame_inside c.loop-f.f c.args.count (length c.args.watched.now) (length c.args.waves.now) less c.requires.watched in
+    let long = c.loop-f.invariant.waves_long in
     let runs : g.row.C ≤ 4 = c.requires.runs in
     let one : g.row.C * 56 < 9223372036854775808 = omega arith in
     let two : g.row.C * 8 < 9223372036854775808 = omega arith in
-    (one, (two, words))
+    (one, (two, (runs, (inside, omega (arith, room, long)))))
 
 pub loop-f-preserved : goal.loop-f-preserved
 loop-f-preserved g c =
-    let less : c.loop-f.f < length c.args.waves.now = c.loop-f-test.true in
-    let waves = c.loop-f.invariant.waves_long in
+    let less : c.loop-f.f < c.args.count = c.loop-f-test.true in
     let size : c.loop-f.f * length c.args.feeds.now + length c.args.feeds.now - c.loop-f.f * length c.args.feeds.now ≡ length c.args.feeds.now = omega arith in
     let stepped = subst (λ (m : ℕ). HaveStepped g.row.C (2 ^ g.row.K) c.args.root c.args.shares.now c.args.chains.now c.args.feeds.now c.loop-f.cells (take m (drop (c.loop-f.f * length c.args.feeds.now) c.args.values.now)) c.step.new.cells)
     size c.step.ensures in
     record {
       long = c.step.auto.cells ∙ c.loop-f.invariant.long;
-      waves_long = length-set c.loop-f.waves c.loop-f.f c.load.new.waves ∙ waves;
-      run = run_more g.row.C (2 ^ g.row.K) c.args.root c.args.shares.now c.args.chains.now c.args.feeds.now c.args.outlet (length c.args.waves.now) c.loop-f.f c.args.cells.now c.loop-f.cells c.step.new.cells c.args.values.now
-          c.loop-f.waves c.load.new.waves less (omega arith) c.requires.outlet c.loop-f.invariant.run stepped c.load.ensures;
+      waves_long = c.watch.auto.rows ∙ c.loop-f.invariant.waves_long;
+      run = run_more g.row.C (2 ^ g.row.K) c.args.root c.args.shares.now c.args.chains.now c.args.feeds.now c.args.watched.now c.args.count c.loop-f.f c.args.cells.now c.loop-f.cells c.step.new.cells c.args.values.now
+          c.loop-f.waves c.watch.new.rows less c.requires.inside c.loop-f.invariant.run stepped c.watch.ensures.sent c.watch.ensures.others;
     }
 
 pub returns : goal.returns
 returns g c =
-    let done : c.loop-f.f ≡ length c.args.waves.now = let most = c.loop-f.auto.f-end in let least = c.loop-f-test.false in omega arith in
-    subst (λ (f : ℕ). HaveRun g.row.C (2 ^ g.row.K) c.args.root c.args.shares.now c.args.chains.now c.args.feeds.now c.args.outlet (length c.args.waves.now) f c.args.cells.now c.args.values.now c.loop-f.cells c.loop-f.waves)
+    let done : c.loop-f.f ≡ c.args.count = let most = c.loop-f.auto.f-end in let least = c.loop-f-test.false in omega arith in
+    subst (λ (f : ℕ). HaveRun g.row.C (2 ^ g.row.K) c.args.root c.args.shares.now c.args.chains.now c.args.feeds.now c.args.watched.now c.args.count f c.args.cells.now c.args.values.now c.loop-f.cells c.loop-f.waves)
     done c.loop-f.invariant.run

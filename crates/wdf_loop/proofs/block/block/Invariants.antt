@@ -6,5 +6,5 @@ abbrev pub invariant-loop-f : goal.invariant-loop-f
 invariant-loop-f g l = record {
   long : length l.cells ≡ length l.initial.cells;
   waves_long : length l.waves ≡ length l.initial.waves;
-  run : HaveRun g.row.C (2 ^ g.row.K) l.root l.shares l.chains l.feeds l.outlet (length l.initial.waves) l.f l.initial.cells l.values l.cells l.waves;
+  run : HaveRun g.row.C (2 ^ g.row.K) l.root l.shares l.chains l.feeds l.watched l.count l.f l.initial.cells l.values l.cells l.waves;
 }

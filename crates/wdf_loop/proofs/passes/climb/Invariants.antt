@@ -6,6 +6,6 @@ use Rattle.wdf_loop.proofs.passes.climb.Given as goal
 abbrev pub invariant-loop-j : goal.invariant-loop-j
 invariant-loop-j g l = record {
   long : length l.cells ≡ length l.initial.cells;
-  climbed : HaveClimbed g.row.C (2 ^ g.row.K) l.shares l.first l.end l.j l.initial.cells l.initial.waves l.cells l.waves;
+  climbed : HaveClimbed g.row.C (2 ^ g.row.K) l.shares l.first l.end l.j l.initial.cells l.initial.waves l.cells l.held;
   others : (i : ℕ) → (i < l.first) ⊎ (l.j ≤ i) → row_at l.cells i ≡ row_at l.initial.cells i;
 }

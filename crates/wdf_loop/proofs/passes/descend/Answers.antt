@@ -16,10 +16,10 @@ fall-requires g c =
     let j : ℕ = c.args.end - 1 - c.loop-done.done in
     let next : c.args.end - c.loop-done.done ≡ c.args.end - 1 - c.loop-done.done + 1 = omega arith in
     let share : IsShare (2 ^ g.row.K) (share_at c.args.shares.now (c.args.end - 1 - c.loop-done.done)) = c.requires.shares (c.args.end - 1 - c.loop-done.done) (omega arith) in
-    let so_far = subst (λ (j : ℕ). HaveDescended g.row.C (2 ^ g.row.K) c.args.shares.now c.args.first c.args.end j c.args.cells.now c.args.waves.now c.loop-done.cells c.loop-done.waves)
+    let so_far = subst (λ (j : ℕ). HaveDescended g.row.C (2 ^ g.row.K) c.args.shares.now c.args.first c.args.end j c.args.cells.now c.args.waves.now c.loop-done.cells c.loop-done.held)
     next c.loop-done.invariant.descended in
-    let can : AllCanFall (2 ^ g.row.K) g.row.C (share_at c.args.shares.now (c.args.end - 1 - c.loop-done.done)) c.loop-done.waves (row_at c.loop-done.cells (c.args.end - 1 - c.loop-done.done)) =
-    descend_can g.row.C (2 ^ g.row.K) c.args.shares.now c.args.first c.args.end (c.args.end - 1 - c.loop-done.done) c.args.cells.now c.loop-done.cells c.args.waves.now c.loop-done.waves share
+    let can : AllCanFall (2 ^ g.row.K) g.row.C (share_at c.args.shares.now (c.args.end - 1 - c.loop-done.done)) c.loop-done.held (row_at c.loop-done.cells (c.args.end - 1 - c.loop-done.done)) =
+    descend_can g.row.C (2 ^ g.row.K) c.args.shares.now c.args.first c.args.end (c.args.end - 1 - c.loop-done.done) c.args.cells.now c.loop-done.cells c.args.waves.now c.loop-done.held share
     (omega arith) (omega arith) c.requires.can so_far (c.loop-done.invariant.others (c.args.end - 1 - c.loop-done.done) (inl (omega arith))) in
     let runs : g.row.C ≤ 4 = c.requires.runs in
     let one : g.row.C * 56 < 9223372036854775808 = omega arith in
@@ -33,9 +33,9 @@ loop-done-preserved g c =
     let left : c.loop-done.done < c.args.end - c.args.first = c.loop-done-test.true in
     let now : c.args.end - c.loop-done.done ≡ c.args.end - 1 - c.loop-done.done + 1 = omega arith in
     let next : c.args.end - 1 - c.loop-done.done ≡ c.args.end - (c.loop-done.done + 1) = omega arith in
-    let so_far = subst (λ (j : ℕ). HaveDescended g.row.C (2 ^ g.row.K) c.args.shares.now c.args.first c.args.end j c.args.cells.now c.args.waves.now c.loop-done.cells c.loop-done.waves)
+    let so_far = subst (λ (j : ℕ). HaveDescended g.row.C (2 ^ g.row.K) c.args.shares.now c.args.first c.args.end j c.args.cells.now c.args.waves.now c.loop-done.cells c.loop-done.held)
     now c.loop-done.invariant.descended in
-    let more = descend_more g.row.C (2 ^ g.row.K) c.args.shares.now c.args.first c.args.end (c.args.end - 1 - c.loop-done.done) c.args.cells.now c.loop-done.cells c.args.waves.now c.loop-done.waves c.fall.new.row c.fall.new.waves
+    let more = descend_more g.row.C (2 ^ g.row.K) c.args.shares.now c.args.first c.args.end (c.args.end - 1 - c.loop-done.done) c.args.cells.now c.loop-done.cells c.args.waves.now c.loop-done.held c.fall.new.row c.fall.new.waves
     (omega arith) (omega arith) (omega arith) so_far (c.loop-done.invariant.others (c.args.end - 1 - c.loop-done.done) (inl (omega arith))) c.fall.ensures in
     record {
       long = length-set c.loop-done.cells (c.args.end - 1 - c.loop-done.done) c.fall.new.row ∙ long;
@@ -48,4 +48,4 @@ loop-done-preserved g c =
 pub returns-clause-descend : goal.returns-clause-descend
 returns-clause-descend g c =
     let done : c.args.end - c.loop-done.done ≡ c.args.first = let order = c.requires.order in let most = c.loop-done.auto.done-end in let least = c.loop-done-test.false in omega arith in
-    subst (λ (j : ℕ). HaveDescended g.row.C (2 ^ g.row.K) c.args.shares.now c.args.first c.args.end j c.args.cells.now c.args.waves.now c.loop-done.cells c.loop-done.waves) done c.loop-done.invariant.descended
+    subst (λ (j : ℕ). HaveDescended g.row.C (2 ^ g.row.K) c.args.shares.now c.args.first c.args.end j c.args.cells.now c.args.waves.now c.loop-done.cells c.loop-done.held) done c.loop-done.invariant.descended
