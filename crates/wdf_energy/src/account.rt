@@ -23,8 +23,8 @@ pub(crate) struct Account {
 fn square(wave: i64) -> u128
     ensures { result ≡ square wave }
 {
-    let size = u128::from(wave.unsigned_abs());
-    size * size
+    let wide = i128::from(wave);
+    (wide * wide) as u128
 }
 
 // The sum with the squares of these values.

@@ -1,6 +1,7 @@
 -- One sample more is read, or written.
-use Rattle.std.proofs.Common.{◌≡◌, ℕ, zero, suc, ◌+◌, ◌-◌, ◌*◌, ◌/◌, ◌<◌, ◌≤◌, List, [], ◌∷◌, ◌++◌, length, map, take, drop, get_or, set, refl, sym, ap, ◌∙◌, arith, append-nil}
-use Rattle.std.specs.Prelude.{ℤ}
+use Rattle.std.proofs.Common.{◌≡◌, ℕ, zero, suc, ◌+◌, ◌-◌, ◌*◌, ◌/◌, ◌<◌, ◌≤◌, List, [], ◌∷◌, ◌++◌, length, map, take, drop, get_or, set, refl, sym, ap, ◌∙◌, arith, append-nil, take-add, length-append, Bool}
+use Rattle.std.specs.Prelude.{ℤ, filter}
+use Rattle.std.proofs.lemmas.List.Elements.{filter-append}
 use Rattle.std.proofs.lemmas.List.{take_more, take_more_set, take_all, map-append, drop-drop}
 use Rattle.std.proofs.lemmas.Grind.{flat_map-append}
 use Rattle.std.proofs.lemmas.Slice.{take-put_mid}
@@ -40,19 +41,43 @@ read_all bits k bytes samples all so_far count =
 
 -- ---- written
 
-mul-le-mul_at : (k count size : ℕ) (bytes : List ℕ) → k < count → length bytes ≡ count * size → k * size ≤ length bytes
+mul-le-mul_at : (k count size : ℕ) (bytes : List ℕ) → k ≤ count → length bytes ≡ count * size → k * size ≤ length bytes
 mul-le-mul_at k count size bytes below long = let most : k * size ≤ count * size = mul-le-mul_right size (omega arith) in omega arith
 
-pub written_more : (bits down size k : ℕ) (bytes new : List ℕ) (waves : List ℤ) (z d : ℤ) → k < length waves → length bytes ≡ length waves * size → length new ≡ size
-    → take (k * size) bytes ≡ data_of bits (map (output_of down bits) (take k waves)) → z ≡ get_or waves k d → new ≡ sample_coding bits (output_of down bits z)
-    → take ((k + 1) * size) (put_mid (k * size) ((k + 1) * size - k * size) bytes new) ≡ data_of bits (map (output_of down bits) (take (k + 1) waves))
-written_more bits down size k bytes new waves z d inside room long so_far here is =
-    let f = output_of down bits in
-    let before : k * size ≤ length bytes = mul-le-mul_at k (length waves) size bytes inside room in
+pub written_more : (bits size k : ℕ) (bytes new : List ℕ) (samples : List ℤ) (z d : ℤ) → k < length samples → length bytes ≡ length samples * size → length new ≡ size
+    → take (k * size) bytes ≡ data_of bits (take k samples) → z ≡ get_or samples k d → new ≡ sample_coding bits z
+    → take ((k + 1) * size) (put_mid (k * size) ((k + 1) * size - k * size) bytes new) ≡ data_of bits (take (k + 1) samples)
+written_more bits size k bytes new samples z d inside room long so_far here is =
+    let before : k * size ≤ length bytes = mul-le-mul_at k (length samples) size bytes (omega arith) room in
     let place : (k + 1) * size ≡ k * size + length new = omega arith in
     take-put_mid (k * size) ((k + 1) * size - k * size) bytes new ((k + 1) * size) place before
     ∙ ((λ i. so_far i ++ is i)
-    ∙ sym (ap (λ (l : List ℤ). data_of bits (map f l)) (take_more waves k d inside ∙ ap (λ (x : ℤ). take k waves ++ x ∷ []) (sym here))
-    ∙ (ap (data_of bits) (map-append f (take k waves) (z ∷ []))
-    ∙ (flat_map-append (sample_coding bits) (map f (take k waves)) (f z ∷ [])
-    ∙ ap (λ (l : List ℕ). data_of bits (map f (take k waves)) ++ l) (append-nil (sample_coding bits (f z)))))))
+    ∙ sym (ap (data_of bits) (take_more samples k d inside ∙ ap (λ (x : ℤ). take k samples ++ x ∷ []) (sym here))
+    ∙ (flat_map-append (sample_coding bits) (take k samples) (z ∷ [])
+    ∙ ap (λ (l : List ℕ). data_of bits (take k samples) ++ l) (append-nil (sample_coding bits z)))))
+
+-- the samples of a front, and those of the numbers behind it
+front_more : {X : Type 0} (from to : ℕ) (xs : List X) → from ≤ to → take to xs ≡ take from xs ++ take (to - from) (drop from xs)
+front_more {X = X} from to xs le = let sum : from + (to - from) ≡ to = omega arith in ap (λ (n : ℕ). take n xs) (sym sum) ∙ take-add from (to - from) xs
+
+pub part_written : (bits down size from to : ℕ) (bytes new : List ℕ) (waves : List ℤ) → from ≤ to → to ≤ length waves → length bytes ≡ length waves * size → length new ≡ to * size - from * size
+    → take (from * size) bytes ≡ data_of bits (map (output_of down bits) (take from waves)) → new ≡ data_of bits (map (output_of down bits) (take (to - from) (drop from waves)))
+    → take (to * size) (put_mid (from * size) (to * size - from * size) bytes new) ≡ data_of bits (map (output_of down bits) (take to waves))
+part_written bits down size from to bytes new waves part inside room long so_far is =
+    let f = output_of down bits in
+    let before : from * size ≤ length bytes = mul-le-mul_at from (length waves) size bytes (omega arith) room in
+    let ends : from * size ≤ to * size = mul-le-mul_right size part in
+    let place : to * size ≡ from * size + length new = omega arith in
+    take-put_mid (from * size) (to * size - from * size) bytes new (to * size) place before
+    ∙ ((λ i. so_far i ++ is i)
+    ∙ sym (ap (λ (l : List ℤ). data_of bits (map f l)) (front_more from to waves part)
+    ∙ (ap (data_of bits) (map-append f (take from waves) (take (to - from) (drop from waves)))
+    ∙ flat_map-append (sample_coding bits) (map f (take from waves)) (map f (take (to - from) (drop from waves))))))
+
+pub part_counted : (p : ℤ → Bool) (from to before more : ℕ) (waves : List ℤ) → from ≤ to → before ≡ length (filter p (take from waves)) → more ≡ length (filter p (take (to - from) (drop from waves)))
+    → before + more ≡ length (filter p (take to waves))
+part_counted p from to before more waves part so_far is =
+    (λ i. so_far i + is i)
+    ∙ sym (ap (λ (l : List ℤ). length (filter p l)) (front_more from to waves part)
+    ∙ (ap (λ (l : List ℤ). length l) (filter-append p (take from waves) (take (to - from) (drop from waves)))
+    ∙ length-append (filter p (take from waves)) (filter p (take (to - from) (drop from waves)))))

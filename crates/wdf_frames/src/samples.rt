@@ -1,13 +1,16 @@
 // The samples of a block: their values, the first over amp, and the output samples of load waves.
-ghost use Rattle.std.specs.Prelude.{◌≡◌, ◌*◌, ◌/◌, ◌<◌, ◌≤◌, length, take, map, filter, pos, slice_index_or, unsigned_abs, All};
-ghost use Rattle.wdf_algebra.specs.Samples.{IsSampleWidth};
+ghost use Rattle.std.specs.Prelude.{◌≡◌, ◌*◌, ◌-◌, ◌/◌, ◌<◌, ◌≤◌, length, take, map, filter, pos, slice_index_or, unsigned_abs, All};
+ghost use Rattle.wdf_algebra.specs.Samples.{IsSampleValue, IsSampleWidth};
 ghost use Rattle.wdf_law.specs.OutputRule.{output_of};
 ghost use Rattle.wdf_loop.specs.Limiting.{is_limited};
 ghost use Rattle.wdf_wav.specs.SampleCoding.{sample_coding};
 ghost use Rattle.wdf_wav.specs.PcmStream.{samples_of, data_of};
 
-use wdf_loop::out_sample;
+use wdf_lane::{decode16, limit_block};
 use wdf_wav::{sample_bytes, sample_of};
+
+// How many output samples are made before they are written.
+const ROOM: usize = 256;
 
 // The width is a constant of the code, so that the loop has no choice in it.
 fn decode_at<const BITS: u8>(bytes: &[u8], samples: &mut [i64])
@@ -29,7 +32,7 @@ pub(crate) fn decode(bits: u8, bytes: &[u8], samples: &mut [i64])
 {
     match bits {
         8 => decode_at::<8>(bytes, samples),
-        16 => decode_at::<16>(bytes, samples),
+        16 => decode16(bytes, samples),
         24 => decode_at::<24>(bytes, samples),
         _ => decode_at::<32>(bytes, samples),
     }
@@ -49,36 +52,78 @@ pub(crate) fn count_small(amp: u32, samples: &[i64]) -> usize
     samples.len()
 }
 
-// Writes the output sample that a load wave comes to, and says whether it was limited.
-fn encode_one(down: u8, bits: u8, wave: i64, bytes: &mut [u8]) -> bool
-    requires few { down ≤ 33 }
+// Writes one sample.
+#[inline(always)]
+fn write_one(bits: u8, sample: i64, bytes: &mut [u8])
     requires width { IsSampleWidth bits }
+    requires range { IsSampleValue bits sample }
     requires room { length bytes.old ≡ bits / 8 }
-    ensures bytes { bytes.new ≡ sample_coding bits (output_of down bits wave) }
-    ensures limited { result ≡ is_limited down bits wave }
+    ensures { bytes.new ≡ sample_coding bits sample }
 {
-    let sample = out_sample(wave, down, bits);
-    let coded = sample_bytes(sample.value, u16::from(bits));
+    let coded = sample_bytes(sample, u16::from(bits));
     bytes.copy_from_slice(&coded[..usize::from(bits / 8)]);
-    sample.limited
 }
 
 // The width is a constant of the code, so that the loop has no choice in it.
-fn encode_at<const BITS: u8>(down: u8, waves: &[i64], bytes: &mut [u8]) -> u64
-    requires few { down ≤ 33 }
+fn write_at<const BITS: u8>(samples: &[i64], bytes: &mut [u8])
     requires width { IsSampleWidth BITS }
-    requires room { length bytes.old ≡ length waves.now * (BITS / 8) }
-    ensures bytes { bytes.new ≡ data_of BITS (map (output_of down BITS) waves.now) }
-    ensures limited { result ≡ length (filter (is_limited down BITS) waves.now) }
-    ensures most { result ≤ length waves.now }
+    requires range { All (IsSampleValue BITS) samples.now }
+    requires room { length bytes.old ≡ length samples.now * (BITS / 8) }
+    ensures { bytes.new ≡ data_of BITS samples.now }
 {
     let size = usize::from(BITS / 8);
-    let mut limited = 0;
-    for k in 0..waves.len() {
-        let is_limited = encode_one(down, BITS, waves[k], &mut bytes[k * size..(k + 1) * size]);
-        limited += u64::from(is_limited);
+    for k in 0..samples.len() {
+        write_one(BITS, samples[k], &mut bytes[k * size..(k + 1) * size]);
     }
-    limited
+}
+
+// Writes samples one after another.
+fn write_samples(bits: u8, samples: &[i64], bytes: &mut [u8])
+    requires width { IsSampleWidth bits }
+    requires range { All (IsSampleValue bits) samples.now }
+    requires room { length bytes.old ≡ length samples.now * (bits / 8) }
+    ensures { bytes.new ≡ data_of bits samples.now }
+{
+    match bits {
+        8 => write_at::<8>(samples, bytes),
+        16 => write_at::<16>(samples, bytes),
+        24 => write_at::<24>(samples, bytes),
+        _ => write_at::<32>(samples, bytes),
+    }
+}
+
+// Writes the output samples of the waves from number `from` to `to`, where those before are written,
+// and says how many up to there were limited, where `before` of those before were. `samples` is room
+// for them.
+fn encode_part(
+    down: u8,
+    bits: u8,
+    waves: &[i64],
+    from: usize,
+    to: usize,
+    before: u64,
+    samples: &mut [i64],
+    bytes: &mut [u8],
+) -> u64
+    requires few { down ≤ 33 }
+    requires width { IsSampleWidth bits }
+    requires room { length bytes.old ≡ length waves.now * (bits / 8) }
+    requires part { from ≤ to }
+    requires inside { to ≤ length waves.now }
+    requires samples { length samples.old ≡ to - from }
+    requires bytes { take (from * (bits / 8)) bytes.old ≡ data_of bits (map (output_of down bits) (take from waves.now)) }
+    requires limited { before ≡ length (filter (is_limited down bits) (take from waves.now)) }
+    requires most { before ≤ from }
+    ensures room { length bytes.new ≡ length bytes.old }
+    ensures samples { length samples.new ≡ length samples.old }
+    ensures bytes { take (to * (bits / 8)) bytes.new ≡ data_of bits (map (output_of down bits) (take to waves.now)) }
+    ensures limited { result ≡ length (filter (is_limited down bits) (take to waves.now)) }
+    ensures most { result ≤ to }
+{
+    let size = usize::from(bits / 8);
+    let limited = limit_block(&waves[from..to], down, bits, samples);
+    write_samples(bits, samples, &mut bytes[from * size..to * size]);
+    before + limited
 }
 
 /// Writes the output samples that load waves come to, and says how many were limited.
@@ -90,10 +135,23 @@ pub(crate) fn encode(down: u8, bits: u8, waves: &[i64], bytes: &mut [u8]) -> u64
     ensures limited { result ≡ length (filter (is_limited down bits) waves.now) }
     ensures most { result ≤ length waves.now }
 {
-    match bits {
-        8 => encode_at::<8>(down, waves, bytes),
-        16 => encode_at::<16>(down, waves, bytes),
-        24 => encode_at::<24>(down, waves, bytes),
-        _ => encode_at::<32>(down, waves, bytes),
+    let mut samples = [0; ROOM];
+    let mut limited = 0;
+    for k in 0..waves.len() / ROOM {
+        let from = k * ROOM;
+        let to = from + ROOM;
+        limited = encode_part(down, bits, waves, from, to, limited, &mut samples, bytes);
     }
+    let from = waves.len() / ROOM * ROOM;
+    let to = waves.len();
+    encode_part(
+        down,
+        bits,
+        waves,
+        from,
+        to,
+        limited,
+        &mut samples[..to - from],
+        bytes,
+    )
 }

@@ -1,5 +1,5 @@
 -- The accounts of runs grow with their frames.
-use Rattle.std.proofs.Common.{◌≡◌, ℕ, ◌<◌, List, [], ◌∷◌, ◌++◌, map, refl, sym, ap, ◌∙◌}
+use Rattle.std.proofs.Common.{◌≡◌, ℕ, List, [], ◌∷◌, ◌++◌, map, refl, sym, ap, ◌∙◌}
 use Rattle.std.specs.Prelude.{ℤ}
 use Rattle.wdf_law.specs.declared.side.Side.{Side}
 use Rattle.wdf_law.specs.declared.side.Side.TheVariants.{Whole, A, B}

@@ -1,13 +1,13 @@
 -- Runs begin at rest, with accounts of no frame.
 use Rattle.std.proofs.Common.{◌≡◌, ℕ, ◌<◌, length, replicate, get_or, refl, sym, ap, ◌∙◌, subst}
-use Rattle.std.specs.Prelude.{ℤ, pos}
+use Rattle.std.specs.Prelude.{pos}
 use Rattle.std.proofs.lemmas.List.{get_or-replicate, length-replicate}
 use Rattle.wdf_law.specs.declared.side.Side.{Side}
 use Rattle.wdf_law.specs.declared.side.Side.TheVariants.{Whole, A, B}
 use Rattle.wdf_law.specs.Network.{Network}
 use Rattle.wdf_law.specs.Run.{at_rest}
 use Rattle.wdf_bounds.specs.Plans.{PlanOf}
-use Rattle.wdf_energy.specs.Accounts.{AccountOf, account_at, opened}
+use Rattle.wdf_energy.specs.Accounts.{account_at, opened}
 use Rattle.wdf_energy.specs.LedgerLaws.{FollowsFrames, HoldsFrames}
 use Rattle.wdf_sched.specs.Schedules.{ScheduleValue}
 use Rattle.wdf_loop.specs.Engines.{IsFresh, runs_of, sent_at}

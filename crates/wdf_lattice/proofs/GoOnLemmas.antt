@@ -69,8 +69,13 @@ go_two x y x' y' count input first second output long alike driven kept_x kept_y
     let guard = x.engine.plan.guard in
     let frames : length (pieces count (runs * 1) input) ≡ count = length-pieces count (runs * 1) input in
     record {
-      alike = (kept_x.held, kept_y.held, kept_y.plans ∙ (alike.2 ∙ sym kept_x.plans), kept_y.counted ∙ (alike.3 ∙ sym kept_x.counted),
-          kept_y.done ∙ (ap (λ (d : ℕ). d + count) alike.4 ∙ sym kept_x.done));
+      alike = (
+        kept_x.held,
+        kept_y.held,
+        kept_y.plans ∙ (alike.2 ∙ sym kept_x.plans),
+        kept_y.counted ∙ (alike.3 ∙ sym kept_x.counted),
+        kept_y.done ∙ (ap (λ (d : ℕ). d + count) alike.4 ∙ sym kept_x.done),
+      );
       networks_are = λ i. Lattice (kept_x.schedule i).net (kept_y.schedule i).net;
       plan_is = kept_x.plans;
       runs_are = kept_x.counted;

@@ -1,5 +1,5 @@
 -- The engine of one network takes its runs over the frames of a block.
-use Rattle.std.proofs.Common.{◌≡◌, ◌≢◌, ℕ, zero, suc, ◌+◌, ◌*◌, ◌/◌, ◌%◌, ◌^◌, ◌-◌, ◌<◌, ◌≤◌, List, [], ◌∷◌, ◌++◌, length, take, drop, get_or, refl, sym, ap, ap₂, ◌∙◌, subst, arith}
+use Rattle.std.proofs.Common.{◌≡◌, ◌≢◌, ℕ, zero, suc, ◌+◌, ◌*◌, ◌/◌, ◌%◌, ◌^◌, ◌-◌, ◌<◌, ◌≤◌, List, [], ◌∷◌, ◌++◌, length, get_or, refl, sym, ap, ap₂, ◌∙◌, subst, arith}
 use Rattle.std.specs.Prelude.{ℤ, pos, unsigned_abs, slice_index_or}
 use mathlib.Core.Logic.{◌⊎◌, inl, inr}
 use Rattle.std.proofs.Math.Nat.{mod-lt, mul-div_cancel, mul-le-mul, pow-le-pow_right}
@@ -21,7 +21,6 @@ use Rattle.wdf_bounds.specs.Plans.{PlanOf}
 use Rattle.wdf_bounds.specs.WordBound.{word_limit}
 use Rattle.wdf_energy.specs.Accounts.{AccountOf, LedgerOf, all_noted}
 use Rattle.wdf_sched.specs.Meaning.{Starts, slot_at}
-use Rattle.wdf_sched.specs.Operations.{Slots}
 use Rattle.wdf_sched.specs.Schedules.{ScheduleValue}
 use Rattle.wdf_loop.specs.Engines.{AreFrames, EngineValue, HoldsLedger, IsBlock, runs_of}
 use Rattle.wdf_loop.specs.RunFrames.{RunsOn, samples_of}

@@ -1,5 +1,5 @@
 -- The runs of a ladder's network, and of both branches of a lattice, go over frames.
-use Rattle.std.proofs.Common.{◌≡◌, ℕ, ◌+◌, ◌*◌, ◌<◌, ◌≤◌, ◌-ℤ◌, List, [], ◌∷◌, ◌++◌, length, Option, Some, None, refl, sym, ap, ap₂, ◌∙◌, subst, arith}
+use Rattle.std.proofs.Common.{◌≡◌, ℕ, ◌+◌, ◌*◌, ◌<◌, ◌≤◌, ◌-ℤ◌, List, [], ◌∷◌, ◌++◌, length, Some, refl, sym, ap, ap₂, ◌∙◌, subst, arith}
 use Rattle.std.specs.Prelude.{ℤ, pos, slice_index_or}
 use Rattle.std.proofs.Math.Nat.{mul-le-mul_right}
 use Rattle.wdf_law.specs.declared.side.Side.{Side}
@@ -18,8 +18,7 @@ use Rattle.wdf_lattice.specs.declared.side_runs.SideRuns.{SideRuns}
 use Rattle.wdf_lattice.specs.Sides.{sources_driven}
 use Rattle.wdf_lattice.specs.Waves.{samples_for, wave_at}
 use Rattle.wdf_lattice.specs.SolvedWaves.{solved_family, states_behind}
-use Rattle.wdf_lattice.specs.SideAccounts.{accounts_behind}
-use Rattle.wdf_lattice.specs.Runners.{NoteOver, RunOver, ShowLast, ShowsStep, accounts_by, schedule_by, slots_by, states_by}
+use Rattle.wdf_lattice.specs.Runners.{NoteOver, ShowLast, ShowsStep, accounts_by, schedule_by, slots_by, states_by}
 use Rattle.wdf_lattice.specs.RunSides.{SideOver, SidesOver, networks_by, steps_of}
 use Rattle.wdf_lattice.proofs.AccountLemmas.{note_more}
 use Rattle.wdf_lattice.proofs.CutLemmas.{last_behind}

@@ -71,13 +71,7 @@ impl Engines {
 
     /// Makes the next frames of all runs, and notes them. `room` is for the load waves of a
     /// lattice's branch A.
-    pub(crate) fn block(
-        &mut self,
-        runs: usize,
-        room: &mut [i64],
-        input: &[i64],
-        output: &mut [i64],
-    )
+    pub(crate) fn block(&mut self, runs: usize, room: &mut [i64], input: &[i64], output: &mut [i64])
         requires some { 1 ≤ runs }
         requires runs { runs ≡ runs_by self.old }
         requires alike { AreAlike self.old }

@@ -12,6 +12,8 @@ pub mod laws;
 mod networks;
 mod runner;
 mod side_runs;
+#[cfg(test)]
+mod tests;
 
 pub use networks::Networks;
 pub use runner::Runner;

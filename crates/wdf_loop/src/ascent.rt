@@ -1,7 +1,7 @@
 // The way up all chains, in several runs at once.
-ghost use Rattle.std.specs.Prelude.{◌≡◌, ◌+◌, ◌<◌, ◌≤◌, ◌^◌, length, unsigned_abs};
+ghost use Rattle.std.specs.Prelude.{◌≡◌, ◌+◌, ◌-◌, ◌<◌, ◌≤◌, ◌^◌, length, unsigned_abs};
 ghost use Rattle.wdf_loop.specs.Frames.{AllRun, AreSigns, HaveRisen};
-ghost use Rattle.wdf_loop.specs.Layouts.{IsRowOfChains};
+ghost use Rattle.wdf_loop.specs.Layouts.{IsRowOfChains, chain_at};
 ghost use Rattle.wdf_loop.specs.Runs.{AllCanAscend, AreShares, HaveAscended, KeepsOthers};
 
 use crate::cell::Cell;
@@ -34,11 +34,12 @@ fn ascend<const K: u32, const C: usize>(
     climb::<K, C>(shares, cells, first, chain.end as usize, waves);
 }
 
-/// Up all chains, each but the last to the part beside the stage where it hangs: `waves` become
-/// what the trees below the root reflect.
+/// Up all chains, each but the last, which is `top`, to the part beside the stage where it hangs:
+/// `waves` become what the trees below the root reflect.
 pub(crate) fn rise<const K: u32, const C: usize>(
     shares: &[Share],
     chains: &[Chain],
+    top: Chain,
     cells: &mut [[Cell; C]],
     root: usize,
     waves: &mut [i64; C],
@@ -49,6 +50,7 @@ pub(crate) fn rise<const K: u32, const C: usize>(
     requires each { length shares.now ≡ root + 1 }
     requires shares { AreShares (2 ^ K) shares.now }
     requires chains { IsRowOfChains root chains.now }
+    requires top { chain_at chains.now (length chains.now - 1) ≡ top }
     requires signs { AreSigns chains.now }
     requires run { AllRun C (2 ^ K) root shares.now chains.now cells.old }
     ensures { HaveRisen C (2 ^ K) root shares.now chains.now cells.old cells.new waves.new }
@@ -59,5 +61,5 @@ pub(crate) fn rise<const K: u32, const C: usize>(
         ascend::<K, C>(shares, cells, chain, waves);
         runs::deliver::<C>(&mut cells[chain.to as usize], waves);
     }
-    ascend::<K, C>(shares, cells, chains[last], waves);
+    ascend::<K, C>(shares, cells, top, waves);
 }

@@ -47,11 +47,14 @@ pub(crate) fn block<const K: u32, const C: usize>(
 {
     let sources = feeds.len();
     let parts = watched.len();
+    // What stays the same is taken out of the slices once, since each store may change these.
+    let top = chains[chains.len() - 1];
     for f in 0..count {
         let at = f * sources;
         step::<K, C>(
             shares,
             chains,
+            top,
             feeds,
             cells,
             root,

@@ -1,7 +1,7 @@
 // A frame of several runs at once, from their sources' values.
-ghost use Rattle.std.specs.Prelude.{◌≡◌, ℕ, ◌+◌, ◌<◌, ◌≤◌, ◌^◌, length};
+ghost use Rattle.std.specs.Prelude.{◌≡◌, ℕ, ◌+◌, ◌-◌, ◌<◌, ◌≤◌, ◌^◌, length};
 ghost use Rattle.wdf_loop.specs.Frames.{AreSigns};
-ghost use Rattle.wdf_loop.specs.Layouts.{IsRowOfChains, feed_at};
+ghost use Rattle.wdf_loop.specs.Layouts.{IsRowOfChains, chain_at, feed_at};
 ghost use Rattle.wdf_loop.specs.Runs.{AreShares};
 ghost use Rattle.wdf_loop.specs.Shows.{AreSmallValues};
 ghost use Rattle.wdf_loop.specs.Steps.{AllCanStep, HaveStepped};
@@ -18,6 +18,7 @@ use crate::share::Share;
 pub(crate) fn step<const K: u32, const C: usize>(
     shares: &[Share],
     chains: &[Chain],
+    top: Chain,
     feeds: &[Feed],
     cells: &mut [[Cell; C]],
     root: usize,
@@ -30,6 +31,7 @@ pub(crate) fn step<const K: u32, const C: usize>(
     requires each { length shares.now ≡ root + 1 }
     requires shares { AreShares (2 ^ K) shares.now }
     requires chains { IsRowOfChains root chains.now }
+    requires top { chain_at chains.now (length chains.now - 1) ≡ top }
     requires signs { AreSigns chains.now }
     requires sources { length values.now ≡ length feeds.now }
     requires feeds { (i : ℕ) → i < length feeds.now → (feed_at feeds.now i).stage ≤ root }
@@ -38,5 +40,5 @@ pub(crate) fn step<const K: u32, const C: usize>(
     ensures { HaveStepped C (2 ^ K) root shares.now chains.now feeds.now cells.old values.now cells.new }
 {
     feed::<C>(feeds, cells, values);
-    frame::<K, C>(shares, chains, cells, root);
+    frame::<K, C>(shares, chains, top, cells, root);
 }

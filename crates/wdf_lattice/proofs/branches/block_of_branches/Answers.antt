@@ -1,5 +1,5 @@
 -- One piece more, and all of them.
-use Rattle.std.proofs.Common.{◌≡◌, ℕ, ◌+◌, ◌*◌, ◌/◌, ◌≤◌, List, length, take, rules, sym, ap, ◌∙◌, subst, arith}
+use Rattle.std.proofs.Common.{◌≡◌, ℕ, ◌+◌, ◌*◌, ◌/◌, ◌≤◌, List, length, rules, sym, ap, ◌∙◌, subst, arith}
 use Rattle.std.specs.Prelude.{ℤ}
 use Rattle.std.proofs.Math.Nat.{mul-div_cancel}
 use Rattle.std.proofs.lemmas.List.{take_all}
@@ -9,7 +9,6 @@ use Rattle.wdf_lattice.specs.declared.engines.Engines.TheVariants.{Two}
 use Rattle.wdf_lattice.specs.RunSides.{GoOn}
 use Rattle.wdf_lattice.proofs.CutLemmas.{cut_long}
 use Rattle.wdf_lattice.proofs.GoOnLemmas.{go_next, piece_fits}
-use Rattle.wdf_lattice.proofs.SideLemmas.{same_count}
 use Rattle.wdf_lattice.proofs.branches.block_of_branches.Goals as goal
 
 pub piece_of_branches-requires-clause-frames : goal.piece_of_branches-requires-clause-frames

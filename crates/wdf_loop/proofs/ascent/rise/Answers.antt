@@ -1,8 +1,10 @@
-use Rattle.std.proofs.Common.{◌≡◌, ℕ, ◌+◌, ◌-◌, ◌*◌, ◌<◌, ◌≤◌, ◌^◌, length, refl, ◌∙◌, subst, arith}
+use Rattle.std.proofs.Common.{◌≡◌, ℕ, ◌+◌, ◌-◌, ◌*◌, ◌<◌, ◌≤◌, ◌^◌, length, refl, sym, ◌∙◌, subst, arith}
+use Rattle.std.specs.Prelude.{unsigned_abs}
+use Rattle.wdf_loop.specs.declared.chain.Chain.{Chain}
 use Rattle.std.proofs.lemmas.List.{length-set}
 use Rattle.wdf_loop.specs.Frames.{HaveRisenTo, end_of, first_of, to_of}
 use Rattle.wdf_loop.specs.Layouts.{chain_at}
-use Rattle.wdf_loop.specs.Runs.{AllCanAscend}
+use Rattle.wdf_loop.specs.Runs.{AllCanAscend, HaveAscended, KeepsOthers}
 use Rattle.wdf_loop.proofs.AscentLemmas.{rise_can, rise_last, rise_more, risen_none}
 use Rattle.wdf_loop.proofs.LineLemmas.{end-root, first-end}
 use Rattle.wdf_loop.proofs.ascent.rise.Goals as goal
@@ -65,7 +67,37 @@ ascend-requires-2 g c =
     let runs : g.row.C ≤ 4 = c.requires.runs in
     let one : g.row.C * 56 < 9223372036854775808 = omega arith in
     let two : g.row.C * 8 < 9223372036854775808 = omega arith in
-    (one, (two, (c.requires.few, (c.requires.runs, (order, (bottom, (inside, (each, (c.requires.shares, (c.requires.signs (length c.args.chains.now - 1) small, can))))))))))
+    let same = c.requires.top in (
+      one,
+      (
+        two,
+        (
+          c.requires.few,
+          (
+            c.requires.runs,
+            (
+              subst (λ (t : Chain). t.first ≤ t.end) same order,
+              (
+                subst (λ (t : Chain). t.first < length c.loop-t.cells) same bottom,
+                (
+                  subst (λ (t : Chain). t.end ≤ length c.loop-t.cells) same inside,
+                  (
+                    each,
+                    (
+                      c.requires.shares,
+                      (
+                        subst (λ (t : Chain). unsigned_abs t.sign ≤ 1) same (c.requires.signs (length c.args.chains.now - 1) small),
+                        subst (λ (t : Chain). AllCanAscend g.row.C (2 ^ g.row.K) c.args.shares.now t.first t.end t.sign c.loop-t.cells) same can,
+                      ),
+                    ),
+                  ),
+                ),
+              ),
+            ),
+          ),
+        ),
+      ),
+    )
 
 pub returns : goal.returns
 returns g c =
@@ -74,4 +106,6 @@ returns g c =
     let last : length c.args.chains.now - 1 + 1 ≡ length c.args.chains.now = omega arith in
     let risen = subst (λ (t : ℕ). HaveRisenTo g.row.C (2 ^ g.row.K) c.args.root c.args.shares.now c.args.chains.now t c.args.cells.now c.loop-t.cells) at c.loop-t.invariant.risen in
     rise_last g.row.C (2 ^ g.row.K) c.args.root c.args.shares.now c.args.chains.now (length c.args.chains.now - 1) c.args.cells.now c.loop-t.cells c.ascend-2.new.cells c.ascend-2.new.waves
-    c.requires.chains last risen c.ascend-2.ensures.ascend c.ascend-2.ensures.others
+    c.requires.chains last risen
+    (subst (λ (t : Chain). HaveAscended g.row.C (2 ^ g.row.K) c.args.shares.now t.first t.end t.sign c.loop-t.cells c.ascend-2.new.cells c.ascend-2.new.waves) (sym c.requires.top) c.ascend-2.ensures.ascend)
+    (subst (λ (t : Chain). KeepsOthers t.first t.end c.loop-t.cells c.ascend-2.new.cells) (sym c.requires.top) c.ascend-2.ensures.others)

@@ -32,7 +32,7 @@ step-requires g c =
     let runs : g.row.C ≤ 4 = c.requires.runs in
     let one : g.row.C * 56 < 9223372036854775808 = omega arith in
     let two : g.row.C * 8 < 9223372036854775808 = omega arith in
-    (one, (two, (c.requires.some, (c.requires.few, (c.requires.runs, (stages, (c.requires.each, (c.requires.shares, (c.requires.chains, (c.requires.signs, (sources, (c.requires.feeds, (small, can)))))))))))))
+    (one, (two, (c.requires.some, (c.requires.few, (c.requires.runs, (stages, (c.requires.each, (c.requires.shares, (c.requires.chains, (refl, (c.requires.signs, (sources, (c.requires.feeds, (small, can))))))))))))))
 
 pub watch-requires : goal.watch-requires
 watch-requires g c =

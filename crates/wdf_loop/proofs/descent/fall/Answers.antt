@@ -1,6 +1,7 @@
-use Rattle.std.proofs.Common.{◌≡◌, ℕ, ◌+◌, ◌-◌, ◌*◌, ◌<◌, ◌≤◌, ◌^◌, length, ◌∙◌, subst, arith}
+use Rattle.std.proofs.Common.{◌≡◌, ℕ, ◌+◌, ◌-◌, ◌*◌, ◌<◌, ◌≤◌, ◌^◌, length, sym, ◌∙◌, subst, arith}
+use Rattle.wdf_loop.specs.declared.chain.Chain.{Chain}
 use Rattle.wdf_loop.specs.Frames.{HaveFallenTo, end_of, first_of}
-use Rattle.wdf_loop.specs.Runs.{AllCanDescend}
+use Rattle.wdf_loop.specs.Runs.{AllCanDescend, HaveDescended, KeepsOthers}
 use Rattle.wdf_loop.proofs.LineLemmas.{end-root, first-end}
 use Rattle.wdf_loop.proofs.DescentLemmas.{fall_can, fall_last, fall_last_can, fall_more}
 use Rattle.wdf_loop.proofs.descent.fall.Goals as goal
@@ -21,7 +22,34 @@ descend-requires g c =
     let runs : g.row.C ≤ 4 = c.requires.runs in
     let one : g.row.C * 56 < 9223372036854775808 = omega arith in
     let two : g.row.C * 8 < 9223372036854775808 = omega arith in
-    (one, (two, (c.requires.some, (c.requires.few, (c.requires.runs, (order, (inside, (each, (c.requires.shares, can)))))))))
+    let same = c.requires.top in (
+      one,
+      (
+        two,
+        (
+          c.requires.some,
+          (
+            c.requires.few,
+            (
+              c.requires.runs,
+              (
+                subst (λ (t : Chain). t.first ≤ t.end) same order,
+                (
+                  subst (λ (t : Chain). t.end ≤ length c.args.cells.now) same inside,
+                  (
+                    each,
+                    (
+                      c.requires.shares,
+                      subst (λ (t : Chain). AllCanDescend g.row.C (2 ^ g.row.K) c.args.shares.now t.first t.end c.args.cells.now c.args.waves.now) same can,
+                    ),
+                  ),
+                ),
+              ),
+            ),
+          ),
+        ),
+      ),
+    )
 
 pub loop-done-init : goal.loop-done-init
 loop-done-init g c =
@@ -32,7 +60,9 @@ loop-done-init g c =
       long = c.descend.auto.cells;
       fallen = subst (λ (t : ℕ). HaveFallenTo g.row.C (2 ^ g.row.K) c.args.root c.args.shares.now c.args.chains.now (first_of c.args.chains.now t) c.args.cells.now c.args.waves.now c.descend.new.cells) at
           (fall_last g.row.C (2 ^ g.row.K) c.args.root c.args.shares.now c.args.chains.now (length c.args.chains.now - 1) c.args.cells.now c.descend.new.cells c.args.waves.now c.descend.new.waves
-          c.requires.chains last c.descend.ensures.descend c.descend.ensures.others);
+          c.requires.chains last
+          (subst (λ (t : Chain). HaveDescended g.row.C (2 ^ g.row.K) c.args.shares.now t.first t.end t.first c.args.cells.now c.args.waves.now c.descend.new.cells c.descend.new.waves) (sym c.requires.top) c.descend.ensures.descend)
+          (subst (λ (t : Chain). KeepsOthers t.first t.end c.args.cells.now c.descend.new.cells) (sym c.requires.top) c.descend.ensures.others));
     }
 
 pub descend-requires-in-loop-done : goal.descend-requires-in-loop-done

@@ -31,7 +31,7 @@ fall-requires g c =
     let runs : g.row.C ≤ 4 = c.requires.runs in
     let one : g.row.C * 56 < 9223372036854775808 = omega arith in
     let two : g.row.C * 8 < 9223372036854775808 = omega arith in
-    (one, (two, (c.requires.some, (c.requires.few, (c.requires.runs, (long, (c.requires.each, (c.requires.shares, (c.requires.chains, turned)))))))))
+    (one, (two, (c.requires.some, (c.requires.few, (c.requires.runs, (long, (c.requires.each, (c.requires.shares, (c.requires.chains, (c.requires.top, turned))))))))))
 
 pub returns : goal.returns
 returns g c =

@@ -10,7 +10,7 @@ frame-requires g c =
     all_run g.row.C (2 ^ g.row.K) c.args.root c.args.shares.now c.args.chains.now c.args.feeds.now c.args.cells.now c.feed.new.cells c.args.values.now c.requires.sources c.requires.can c.feed.ensures in
     let runs : g.row.C ≤ 4 = c.requires.runs in
     let one : g.row.C * 56 < 9223372036854775808 = omega arith in
-    (one, (c.requires.some, (c.requires.few, (c.requires.runs, (stages, (c.requires.each, (c.requires.shares, (c.requires.chains, (c.requires.signs, run)))))))))
+    (one, (c.requires.some, (c.requires.few, (c.requires.runs, (stages, (c.requires.each, (c.requires.shares, (c.requires.chains, (c.requires.top, (c.requires.signs, run))))))))))
 
 pub returns : goal.returns
 returns g c =

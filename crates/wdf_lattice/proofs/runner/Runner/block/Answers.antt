@@ -1,9 +1,8 @@
 -- The frames of a block are those of its samples.
-use Rattle.std.proofs.Common.{◌≡◌, ◌*◌, length, sym, subst}
+use Rattle.std.proofs.Common.{sym, subst}
 use Rattle.wdf_lattice.specs.Sides.{sources_driven}
 use Rattle.wdf_lattice.specs.Waves.{frames_of}
 use Rattle.wdf_lattice.specs.Runners.{IsBlock, NoteOver, RunnerValue, RunOver, ShowLast, accounts_by, accounts_of, states_by, states_of}
-use Rattle.wdf_lattice.specs.RunSides.{SidesOver}
 use Rattle.wdf_lattice.proofs.GoOnLemmas.{runner_over}
 use Rattle.wdf_lattice.proofs.runner.Runner.block.Goals as goal
 

@@ -4,8 +4,8 @@ use Rattle.wdf_law.specs.Laws.{HasOneStep}
 use Rattle.wdf_sched.specs.Schedules.{ScheduleValue}
 use Rattle.wdf_lattice.specs.declared.side_runs.SideRuns.{SideRuns}
 use Rattle.wdf_loop.specs.Engines.{runs_of}
-use Rattle.wdf_lattice.specs.RunSides.{GoesOver, KeepsSide}
-use Rattle.wdf_lattice.proofs.SideLemmas.{all_small, made_block, no_count, none_kept, none_over, side_kept, side_over, some_count}
+use Rattle.wdf_lattice.specs.RunSides.{GoesOver}
+use Rattle.wdf_lattice.proofs.SideLemmas.{all_small, made_block, no_count, none_over, side_kept, side_over, some_count}
 use Rattle.wdf_lattice.proofs.side_runs.SideRuns.block.Goals as goal
 
 pub returns-clause-kept : goal.returns-clause-kept

@@ -1,0 +1,4 @@
+mod LaneLemmas
+mod SampleLanes
+mod DecodeLemmas
+mod LimitLemmas
