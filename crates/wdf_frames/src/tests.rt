@@ -1,6 +1,7 @@
-ghost use Rattle.std.specs.Prelude.{◌≡◌, ◌≤◌, ◌<◌, IfOk, OnOk};
+ghost use Rattle.std.specs.Prelude.{◌≡◌, ◌≤◌, ◌<◌, IfOk, IfSome, OnOk};
 ghost use Rattle.wdf_bounds.specs.WordBound.{Fits};
-ghost use Rattle.wdf_wav.specs.Header.{IsPcmHead};
+ghost use Rattle.wdf_algebra.specs.Samples.{IsSampleWidth};
+ghost use Rattle.wdf_wav.specs.Header.{IsFrameFormat, IsPcmHead, data_size};
 ghost use Rattle.wdf_frames.specs.RunStates.{IsFresh};
 
 use super::*;
@@ -145,18 +146,44 @@ fn run_of(
     }
 }
 
+fn width(is_byte: bool) -> u16
+    ensures { IsSampleWidth result }
+{
+    if is_byte { 8 } else { 16 }
+}
+
+fn data_bytes(head: &Head) -> Option<u32>
+    ensures { IfSome result (λ size. size ≡ data_size head.now) }
+{
+    let frame = head.channels.checked_mul(head.bits / 8)?;
+    head.frames.checked_mul(u32::from(frame))
+}
+
+// The head, where it has not too many frames.
+fn short(head: Head) -> Result<Head, Fail>
+    requires format { IsFrameFormat head.channels head.bits }
+    requires rate { head.rate ≤ 1000000 }
+    ensures pcm { IfOk result IsPcmHead }
+    ensures few { IfOk result (λ h. h.frames ≤ 10000) }
+{
+    match data_bytes(&head) {
+        Some(size) if size < 0xFFFF_FF00 && head.frames <= 10000 => Ok(head),
+        _ => Err(Fail::new("too many frames")),
+    }
+}
+
 // A head of samples of 8 or 16 bits.
 fn head(channels: u16, is_byte: bool, frames: u32) -> Result<Head, Fail>
     ensures pcm { IfOk result IsPcmHead }
     ensures few { IfOk result (λ h. h.frames ≤ 10000) }
 {
-    if channels < 1 || channels > 8 || frames > 10000 {
-        return Err(Fail::new("no head"));
+    if channels < 1 || channels > 8 {
+        return Err(Fail::new("no channels"));
     }
-    Ok(Head {
+    short(Head {
         channels,
         rate: 48000,
-        bits: if is_byte { 8 } else { 16 },
+        bits: width(is_byte),
         frames,
     })
 }
@@ -180,7 +207,8 @@ fn calls(alloc: Global, call: Option<u64>) -> Result<Vec<u64>, AllocError> {
 
 // A wave of so many channels and frames runs through a circuit. So many zeros and then `read` are
 // read, in pieces, and the same zeros and then `written` are written behind the header of `runs`
-// channels. At most 8 of the bytes that are left in the input are counted. `ledger` has totals of runs.
+// channels: all of it, or so many bytes of its front as are `held`. At most 8 of the bytes that are left
+// in the input are counted. `ledger` has totals of runs.
 #[derive(Clone, Copy)]
 struct Case {
     circuit: Circuit,
@@ -193,11 +221,14 @@ struct Case {
     zeros: usize,
     read: &'static [u8],
     read_fails: Option<u64>,
+    write_fails: Option<u64>,
+    room: usize,
     answer: Result<(), FrameStop>,
     left: usize,
     limited: u64,
     runs: u16,
     written: &'static [u8],
+    held: Option<usize>,
     ledger: &'static [(Side, usize, Option<Totals>)],
 }
 
@@ -212,11 +243,14 @@ const DONE: Case = Case {
     zeros: 0,
     read: &[],
     read_fails: None,
+    write_fails: None,
+    room: 40000,
     answer: Ok(()),
     left: 0,
     limited: 0,
     runs: 1,
     written: &[],
+    held: None,
     ledger: &[],
 };
 
@@ -259,16 +293,42 @@ fn expect_left(rt: &impl Abort, input: &mut MemSource, left: usize) {
     assert_eq!(rt; take_exact(input, &mut [0; 8]), Ok(left));
 }
 
-fn expect(rt: &impl Abort, alloc: Global, case: &Case) -> Result<(), Fail> {
+fn output_for(alloc: Global, case: &Case) -> Result<MemSink, Fail> {
+    let fails = calls(alloc, case.write_fails)?;
+    let out = MemSink::new(alloc, fails, case.piece.max(1), case.room)?;
+    Ok(out)
+}
+
+fn expect_answer(rt: &impl Abort, answer: Result<(), FrameStop>, case: &Case) {
+    assert_eq!(rt; answer, case.answer);
+}
+
+// Lets the run of a case write, and looks at what it tells and at what it leaves in its input.
+fn expect_run(rt: &impl Abort, alloc: Global, case: &Case, out: &mut MemSink) -> Result<(), Fail> {
     let mut run = run_for(alloc, case)?;
     let mut input = input_for(alloc, case)?;
-    let mut out = MemSink::new(alloc, Vec::new(alloc), case.piece.max(1), 40000)?;
-    let written = written_for(alloc, case)?;
-    assert_eq!(rt; answer(&mut run, &mut input, &mut out), case.answer);
+    expect_answer(rt, answer(&mut run, &mut input, out), case);
     expect_told(rt, &run, case);
     expect_left(rt, &mut input, case.left);
-    assert!(rt; out.bytes() == written.as_slice());
     Ok(())
+}
+
+fn expect_written(rt: &impl Abort, alloc: Global, case: &Case, out: &[u8]) -> Result<(), Fail> {
+    let written = written_for(alloc, case)?;
+    match case.held {
+        None => assert!(rt; out == written.as_slice()),
+        Some(held) => {
+            assert_eq!(rt; out.len(), held);
+            assert!(rt; written.starts_with(out));
+        }
+    }
+    Ok(())
+}
+
+fn expect(rt: &impl Abort, alloc: Global, case: &Case) -> Result<(), Fail> {
+    let mut out = output_for(alloc, case)?;
+    expect_run(rt, alloc, case, &mut out)?;
+    expect_written(rt, alloc, case, out.bytes())
 }
 
 fn expect_all(rt: &impl Abort, alloc: Global, cases: &[Case]) -> Result<(), Fail> {
@@ -542,50 +602,55 @@ fn the_first_sample_over_amp_ends_a_run(rt: HostRuntime) -> Result<(), Fail> {
     expect_all(&rt, rt.alloc(), &STEREO)
 }
 
-// The call that fails and the room of an output, and how many bytes it holds then: at the header,
-// at the first block and the second, within the header and the second block, and at the pad byte.
-static OUTPUTS: [(u64, usize, usize); 6] = [
-    (0, 40000, 0),
-    (1, 40000, 44),
-    (2, 40000, 44 + 4096),
-    (9, 20, 20),
-    (9, 44 + 4099, 44 + 4099),
-    (3, 40000, 44 + 4101),
-];
-
-// Silence at the lowest value, in data of odd size.
+// Silence at the lowest value, in data of odd size, into an output that fails.
 const LOWEST: Case = Case {
     amp: 128,
     is_byte: true,
     frames: 4101,
     zeros: 4101,
+    answer: Err(FrameStop::WriteFault),
     ..DONE
 };
 
-fn expect_front(
-    rt: &impl Abort,
-    alloc: Global,
-    call: u64,
-    room: usize,
-    held: usize,
-) -> Result<(), Fail> {
-    let mut run = run_for(alloc, &LOWEST)?;
-    let mut input = input_for(alloc, &LOWEST)?;
-    let mut out = MemSink::new(alloc, vec![in alloc; call]?, 10000, room)?;
-    let written = written_for(alloc, &LOWEST)?;
-    assert_eq!(rt;
-        answer(&mut run, &mut input, &mut out),
-        Err(FrameStop::WriteFault)
-    );
-    assert_eq!(rt; out.bytes().len(), held);
-    assert!(rt; written.starts_with(out.bytes()));
-    Ok(())
-}
+// At the header, at the first block and the second, at the pad byte, and where the room ends within
+// the header and within the second block.
+static OUTPUTS: [Case; 6] = [
+    Case {
+        write_fails: Some(0),
+        left: 8,
+        held: Some(0),
+        ..LOWEST
+    },
+    Case {
+        write_fails: Some(1),
+        left: 5,
+        held: Some(44),
+        ..LOWEST
+    },
+    Case {
+        write_fails: Some(2),
+        held: Some(44 + 4096),
+        ..LOWEST
+    },
+    Case {
+        write_fails: Some(3),
+        held: Some(44 + 4101),
+        ..LOWEST
+    },
+    Case {
+        room: 20,
+        left: 8,
+        held: Some(20),
+        ..LOWEST
+    },
+    Case {
+        room: 44 + 4099,
+        held: Some(44 + 4099),
+        ..LOWEST
+    },
+];
 
 #[test]
 fn an_output_may_fail(rt: HostRuntime) -> Result<(), Fail> {
-    for (call, room, held) in &OUTPUTS {
-        expect_front(&rt, rt.alloc(), *call, *room, *held)?;
-    }
-    Ok(())
+    expect_all(&rt, rt.alloc(), &OUTPUTS)
 }
