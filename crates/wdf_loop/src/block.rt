@@ -13,7 +13,7 @@ use crate::feed::Feed;
 use crate::part::Part;
 use crate::share::Share;
 use crate::step::step;
-use crate::watch::watch;
+use crate::watch::{part_of, watch};
 
 /// The next `count` frames. `values` has a row for each source of each frame, source 0 first, frame
 /// after frame; `waves` comes to have one for each watched part of each frame, with what it is sent.
@@ -49,6 +49,8 @@ pub(crate) fn block<const K: u32, const C: usize>(
     let parts = watched.len();
     // What stays the same is taken out of the slices once, since each store may change these.
     let top = chains[chains.len() - 1];
+    let one = part_of(watched, 0);
+    let other = part_of(watched, parts.saturating_sub(1));
     for f in 0..count {
         let at = f * sources;
         step::<K, C>(
@@ -60,6 +62,6 @@ pub(crate) fn block<const K: u32, const C: usize>(
             root,
             &values[at..at + sources],
         );
-        watch::<C>(watched, cells, waves, f * parts);
+        watch::<C>(watched, one, other, cells, waves, f * parts);
     }
 }

@@ -1,7 +1,7 @@
-use Rattle.std.proofs.Common.{◌≡◌, ℕ, ◌+◌, ◌-◌, ◌*◌, ◌<◌, ◌≤◌, ◌^◌, length, take, drop, refl, sym, ◌∙◌, subst, arith}
+use Rattle.std.proofs.Common.{◌≡◌, ℕ, ◌+◌, ◌-◌, ◌*◌, ◌<◌, ◌≤◌, ◌^◌, length, take, drop, refl, sym, ap, ◌∙◌, subst, arith, rules}
 use Rattle.std.proofs.lemmas.List.{length-drop, length-take-le}
 use Rattle.wdf_loop.specs.Blocks.{HaveRun}
-use Rattle.wdf_loop.specs.Parts.{AreWithin}
+use Rattle.wdf_loop.specs.Parts.{AreWithin, part_at}
 use Rattle.wdf_loop.specs.Shows.{AreSmallValues}
 use Rattle.wdf_loop.specs.Steps.{AllCanStep, HaveStepped}
 use Rattle.wdf_loop.proofs.BlockLemmas.{all_can_step, frame_inside, frame_small, run_more, run_none}
@@ -44,7 +44,9 @@ watch-requires g c =
     let runs : g.row.C ≤ 4 = c.requires.runs in
     let one : g.row.C * 56 < 9223372036854775808 = omega arith in
     let two : g.row.C * 8 < 9223372036854775808 = omega arith in
-    (one, (two, (runs, (inside, omega (arith, room, long)))))
+    let last : c.saturating_sub.result ≡ length c.args.watched.now - 1 = search rules in
+    let other = c.part_of-other.ensures ∙ ap (λ (n : ℕ). part_at c.args.watched.now n) last in
+    (one, (two, (runs, (c.part_of-one.ensures, (other, (inside, omega (arith, room, long)))))))
 
 pub loop-f-preserved : goal.loop-f-preserved
 loop-f-preserved g c =
