@@ -98,74 +98,85 @@ const RUN: Order = Order {
     order: 0,
 };
 
+const REPORT: Order = Order {
+    command: Command::Report,
+    ..RUN
+};
+
+const CERTIFY: Order = Order {
+    command: Command::Certify,
+    ..RUN
+};
+
+const SOAK: Order = Order {
+    command: Command::Soak,
+    net: None,
+    frames: 4_194_304,
+    seed: u64::MAX,
+    order: 32,
+    ..RUN
+};
+
+// Words, and what they ask for.
+const ORDERS: [(&str, Order); 13] = [
+    ("run|net=N", RUN),
+    (
+        "run|net=N|k=1|guard=0|shift=0|frames=1|amp=1",
+        Order {
+            k: 1,
+            guard: Some(0),
+            frames: 1,
+            amp: Some(1),
+            ..RUN
+        },
+    ),
+    (
+        "run|k=20|guard=16|shift=16|frames=4294967295|amp=2147483648|net=N",
+        Order {
+            net: Some(6),
+            k: 20,
+            guard: Some(16),
+            shift: 16,
+            frames: u32::MAX,
+            amp: Some(2_147_483_648),
+            ..RUN
+        },
+    ),
+    ("run|net=N|k=00000000000000000014", RUN),
+    ("run|net==|shift=0", RUN),
+    ("report|net=N", REPORT),
+    ("report|net=N|bits=8", Order { bits: 8, ..REPORT }),
+    ("report|net=N|bits=32", Order { bits: 32, ..REPORT }),
+    ("certify|net=N", CERTIFY),
+    ("certify|net=N|k=20", Order { k: 20, ..CERTIFY }),
+    (
+        "check|cert=C|k=2|net=N",
+        Order {
+            command: Command::Check,
+            net: Some(3),
+            cert: Some(1),
+            k: 2,
+            ..RUN
+        },
+    ),
+    (
+        "soak|seed=18446744073709551615|order=32|frames=4194304",
+        SOAK,
+    ),
+    (
+        "soak|frames=1|seed=0|order=1",
+        Order {
+            frames: 1,
+            seed: 0,
+            order: 1,
+            ..SOAK
+        },
+    ),
+];
+
 #[test]
 fn orders_have_what_is_given_and_what_counts_else(rt: HostRuntime) -> Result<(), Fail> {
-    let least = Order {
-        k: 1,
-        guard: Some(0),
-        frames: 1,
-        amp: Some(1),
-        ..RUN
-    };
-    let most = Order {
-        net: Some(6),
-        k: 20,
-        guard: Some(16),
-        shift: 16,
-        frames: u32::MAX,
-        amp: Some(2_147_483_648),
-        ..RUN
-    };
-    let report = Order {
-        command: Command::Report,
-        ..RUN
-    };
-    let certify = Order {
-        command: Command::Certify,
-        ..RUN
-    };
-    let check = Order {
-        command: Command::Check,
-        net: Some(3),
-        cert: Some(1),
-        k: 2,
-        ..RUN
-    };
-    let soak = Order {
-        command: Command::Soak,
-        net: None,
-        frames: 4_194_304,
-        seed: u64::MAX,
-        order: 32,
-        ..RUN
-    };
-    let short = Order {
-        frames: 1,
-        seed: 0,
-        order: 1,
-        ..soak
-    };
-    for (line, order) in [
-        ("run|net=N", RUN),
-        ("run|net=N|k=1|guard=0|shift=0|frames=1|amp=1", least),
-        (
-            "run|k=20|guard=16|shift=16|frames=4294967295|amp=2147483648|net=N",
-            most,
-        ),
-        ("run|net=N|k=00000000000000000014", RUN),
-        ("run|net==|shift=0", RUN),
-        ("report|net=N", report),
-        ("report|net=N|bits=8", Order { bits: 8, ..report }),
-        ("report|net=N|bits=32", Order { bits: 32, ..report }),
-        ("certify|net=N", certify),
-        ("certify|net=N|k=20", Order { k: 20, ..certify }),
-        ("check|cert=C|k=2|net=N", check),
-        (
-            "soak|seed=18446744073709551615|order=32|frames=4194304",
-            soak,
-        ),
-        ("soak|frames=1|seed=0|order=1", short),
-    ] {
+    for (line, order) in ORDERS {
         let read = read_words(&words(rt.alloc(), line)?);
         assert_eq!(rt; read, Ok(order), "of {line}");
     }
