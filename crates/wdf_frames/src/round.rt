@@ -77,6 +77,28 @@ impl Round {
         })
     }
 
+    /// The same, in a box.
+    ///
+    /// # Errors
+    ///
+    /// Where no memory is left.
+    pub(crate) fn boxed(
+        alloc: Global,
+        networks: Networks,
+        plan: Plan,
+        head: Head,
+    ) -> Result<Box<Round>, AllocError>
+        requires plan { FitsEach networks plan }
+        requires format { IsFrameFormat head.channels head.bits }
+        requires bits { head.bits ≡ plan.bits }
+        requires driven { DriveAll networks (run_count networks head.channels) }
+        requires sources { 1 < sources_driven networks → head.channels ≡ sources_driven networks }
+        ensures { IfOk result (λ b. IsBegunRound b.value (setting networks plan head)) }
+    {
+        let round = Round::new(alloc, networks, plan, head)?;
+        Ok(Box::new(alloc, round)?)
+    }
+
     // Reads the samples of `count` frames, and says how many stand in front of the first over amp.
     #[tactic(auto, using(crate::proofs::WidthLemmas::width_told))]
     fn load(&mut self, count: usize, frames: &[u8]) -> usize

@@ -15,11 +15,12 @@ use wdf_wav::Head;
 /// The run of one wave by a netlist's networks. It holds all the memory that the run takes.
 #[derive(Drop)]
 pub struct WaveRun {
-    round: Round,
+    // In a box, since it is large: it has the engines of all runs.
+    round: Box<Round>,
     // The bytes of a block that is read, and of one that is written.
     frames: Vec<u8>,
     made: Vec<u8>,
-    ghost room: { HasRoom round.runner round.head round.runs (vec_len frames) (vec_len made) },
+    ghost room: { HasRoom round.value.runner round.value.head round.value.runs (vec_len frames) (vec_len made) },
 }
 
 impl WaveRun {
@@ -56,7 +57,7 @@ impl WaveRun {
         requires sources { 1 < sources_driven networks → head.now.channels ≡ sources_driven networks }
         ensures { IfOk result (IsReady (setting networks plan.now head.now)) }
     {
-        let round = Round::new(alloc, networks, *plan, *head)?;
+        let round = Round::boxed(alloc, networks, *plan, *head)?;
         let frames = vec![in alloc; 0u8; BLOCK * round.read_size()]?;
         let made = vec![in alloc; 0u8; BLOCK * round.write_size()]?;
         Ok(WaveRun {

@@ -14,7 +14,7 @@ use Rattle.wdf_frames.proofs.wave_run.WaveRun.write.Goals as goal
 
 pub returns : goal.returns
 returns g c =
-    let s = round_setting c.args.self.now.round in
+    let s = round_setting c.args.self.now.round.value in
     let r = c.write_frames.new.round in
     let l = g.I.Source.left c.args.input.now in
     let k = g.I.Source.left c.write_frames.new.input in
