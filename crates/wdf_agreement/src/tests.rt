@@ -1,5 +1,6 @@
 //! The runner of the fast engine makes the load waves of plain engines that go frame by frame, however
-//! its own frames are cut into blocks; and behind each block its down slots hold their waves.
+//! its own frames are cut into blocks; and behind each block its down slots hold their waves. A slot
+//! that the plain engine has not was worked by hand.
 
 mod fast;
 mod networks;
@@ -105,5 +106,20 @@ fn both_engines_agree(rt: HostRuntime) -> Result<(), Fail> {
     for (subject, runs) in SUBJECTS {
         agree(&rt, rt.alloc(), subject, runs)?;
     }
+    Ok(())
+}
+
+// What 16384, 0 and 0 leave.
+#[test]
+fn a_worked_slot_before_truncation(rt: HostRuntime) -> Result<(), Fail> {
+    let alloc = rt.alloc();
+    let mut fast = Fast::boxed(&rt, alloc, networks(&rt, alloc, Subject::OneJunction)?, 1)?;
+    let mut block = Samples::new(alloc);
+    block.push(16_384)?;
+    block.push(0)?;
+    block.push(0)?;
+    let waves = fast.block(&rt, alloc, 3, &block)?;
+    assert!(rt; waves.as_slice() == [174_752, 116_504, -38_833].as_slice());
+    assert_eq!(rt; fast.raw(), Some(-477_167_616));
     Ok(())
 }

@@ -12,8 +12,6 @@ pub mod laws;
 mod networks;
 mod runner;
 mod side_runs;
-#[cfg(test)]
-mod tests;
 
 pub use networks::Networks;
 pub use runner::Runner;

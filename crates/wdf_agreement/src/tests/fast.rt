@@ -12,6 +12,7 @@ use std::process::Abort;
 use std::test::Fail;
 use wdf_lattice::{Networks, Runner};
 use wdf_law::Side;
+use wdf_sched::Op;
 
 /// The runs of a netlist's networks, for 1,000 frames of 16 bits.
 #[derive(Drop)]
@@ -101,6 +102,16 @@ impl Fast {
             }
         }
         true
+    }
+
+    /// What the first parallel junction of a ladder reflects before it is truncated, in units of 1/q.
+    pub(super) fn raw(&self) -> Option<i64> {
+        for op in self.runner.schedule(Side::Whole)?.ops() {
+            if let Op::UpParallel { raw, .. } = op {
+                return self.runner.slot(Side::Whole, 0, *raw);
+            }
+        }
+        None
     }
 
     /// How many frames are done.

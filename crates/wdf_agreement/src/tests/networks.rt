@@ -5,7 +5,7 @@ ghost use Rattle.wdf_bounds.specs.Plans.{plan_of};
 ghost use Rattle.wdf_bounds.specs.WordBound.{Fits};
 ghost use Rattle.wdf_lattice.specs.Runners.{DriveAll, FitsEach};
 
-use std::alloc::Global;
+use std::alloc::{AllocError, Global};
 use std::process::Abort;
 use std::test::Fail;
 use wdf_bounds::{Plan, plan_check};
@@ -23,7 +23,9 @@ pub(super) enum Subject {
     Soaked,
     /// The networks of a netlist.
     Text(&'static [u8]),
-    /// A source and an inductor in series against a capacitor and the load in parallel.
+    /// A source against a capacitor and the load in parallel.
+    OneJunction,
+    /// A source and an inductor in series against them.
     BothSides,
 }
 
@@ -60,16 +62,25 @@ fn leaf(elem: u32, kind: Kind) -> Tree {
     }
 }
 
+// A capacitor and the load in parallel.
+fn loaded(alloc: Global) -> Result<Tree, AllocError> {
+    let m = 8_192;
+    let l = Box::new(alloc, leaf(1, Kind::Cap))?;
+    let r = Box::new(alloc, leaf(2, Kind::Res))?;
+    Ok(Tree::Parallel { m, l, r })
+}
+
+fn one_junction(alloc: Global) -> Result<Net, Fail> {
+    let source = leaf(0, Kind::Src);
+    Ok(Net::new(14, 5_461, source, loaded(alloc)?, Outlet::Load(2))?)
+}
+
 fn both_sides(alloc: Global) -> Result<Net, Fail> {
     let m = 10_923;
     let l = Box::new(alloc, leaf(0, Kind::Src))?;
     let r = Box::new(alloc, leaf(3, Kind::Ind))?;
     let left = Tree::Series { m, l, r };
-    let m = 8_192;
-    let l = Box::new(alloc, leaf(1, Kind::Cap))?;
-    let r = Box::new(alloc, leaf(2, Kind::Res))?;
-    let right = Tree::Parallel { m, l, r };
-    Ok(Net::new(14, 5_461, left, right, Outlet::Load(2))?)
+    Ok(Net::new(14, 5_461, left, loaded(alloc)?, Outlet::Load(2))?)
 }
 
 fn networks_of(rt: &impl Abort, alloc: Global, subject: Subject) -> Result<Networks, Fail>
@@ -78,6 +89,7 @@ fn networks_of(rt: &impl Abort, alloc: Global, subject: Subject) -> Result<Netwo
     match subject {
         Subject::Soaked => designed(rt, alloc, &made_netlist(alloc, 3, 8)?),
         Subject::Text(text) => designed(rt, alloc, &netlist_of(rt, alloc, text)?),
+        Subject::OneJunction => Ok(Networks::Ladder(one_junction(alloc)?)),
         Subject::BothSides => Ok(Networks::Ladder(both_sides(alloc)?)),
     }
 }
