@@ -4,8 +4,11 @@ ghost use Rattle.std.specs.Io.KnownBytes.{Appends, IsAtEnd};
 ghost use Rattle.wdf_io.specs.Causes.{HasCause, Rose};
 ghost use Rattle.wdf_io.specs.Moved.{AppendsPart, ConsumesAtMost};
 ghost use Rattle.wdf_wav.specs.FrameBlock.{ReadsFrames};
+ghost use Rattle.wdf_lattice.specs.Runners.{totals_by};
 ghost use Rattle.wdf_wav.specs.Header.{data_size};
 ghost use Rattle.wdf_frames.specs.Setting.{read_size, write_size, written_head};
+ghost use Rattle.wdf_frames.specs.RunFacts.{TellsRun};
+ghost use Rattle.wdf_frames.specs.WaveRuns.{WritesWave};
 ghost use Rattle.wdf_frames.specs.Stops.{FrameStops};
 ghost use Rattle.wdf_frames.specs.Progress.{IsBegunRound, BlockStops, RanSoFar, WritesBlock, WritesFrames, WriteStops, next_count, round_setting};
 
@@ -180,4 +183,34 @@ pub(crate) fn write_frames<I: Source, O: Sink>(
         filter_next(round, all, frames, made, input, out)?;
     }
     Ok(())
+}
+
+/// Writes the header of the output, its data, block after block, and a pad byte behind data of odd
+/// size. `frames` and `made` hold a block that is read and one that is written.
+pub(crate) fn write_wave<I: Source, O: Sink>(
+    round: &mut Round,
+    frames: &mut Vec<u8>,
+    made: &mut Vec<u8>,
+    input: &mut I,
+    out: &mut O,
+) -> Result<(), FrameStop>
+    requires begun { IsBegunRound round.old (round_setting round.old) }
+    requires frames { vec_len frames.old ≡ 4096 * read_size (round_setting round.old) }
+    requires made { vec_len made.old ≡ 4096 * write_size (round_setting round.old) }
+    requires rate { round.old.head.rate ≤ 1000000 }
+    requires size { data_size round.old.head < 0xFFFFFF00 }
+    requires most { round.old.head.frames ≤ round.old.runner.plan.frames }
+    ensures told { OnOk result ((wave : WritesWave (round_setting round.old) (I.left input.old) (I.left input.new) (O.written out.old) (O.written out.new)) × TellsRun (round_setting round.old) wave.body round.new.limited (totals_by round.new.runner)) }
+    ensures stopped { IfErr result (FrameStops (round_setting round.old) (I.left input.old) (I.left input.new) (O.written out.old) (O.written out.new)) }
+    ensures same { round_setting round.new ≡ round_setting round.old }
+    ensures read_later { I.faults input.old ≤ I.faults input.new }
+    ensures write_later { O.faults out.old ≤ O.faults out.new }
+    ensures read_fault { IsErrOf result FrameStop.ReadFault → Rose (I.faults input.old) (I.faults input.new) }
+    ensures write_fault { IsErrOf result FrameStop.WriteFault → Rose (O.faults out.old) (O.faults out.new) }
+    ensures frames_kept { vec_len frames.new ≡ vec_len frames.old }
+    ensures made_kept { vec_len made.new ≡ vec_len made.old }
+{
+    round.rules();
+    write_frames(round, frames, made, input, out)?;
+    put(out, &[0][..round.pad()])
 }

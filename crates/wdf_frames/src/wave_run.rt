@@ -2,7 +2,7 @@ ghost use Rattle.std.specs.Prelude.{vec_len};
 ghost use Rattle.wdf_frames.specs.Shaped.{HasRoom};
 
 use crate::FrameStop;
-use crate::frames::{put, write_frames};
+use crate::frames::write_wave;
 use crate::round::{BLOCK, Round};
 use std::alloc::{AllocError, Global};
 use wdf_bounds::Plan;
@@ -90,15 +90,13 @@ impl WaveRun {
         ensures read_fault { IsErrOf result FrameStop.ReadFault → Rose (I.faults input.old) (I.faults input.new) }
         ensures write_fault { IsErrOf result FrameStop.WriteFault → Rose (O.faults out.old) (O.faults out.new) }
     {
-        self.round.rules();
-        write_frames(
+        write_wave(
             &mut self.round,
             &mut self.frames,
             &mut self.made,
             input,
             out,
-        )?;
-        put(out, &[0][..self.round.pad()])
+        )
     }
 
     /// The networks that run.
