@@ -4,7 +4,6 @@ use Rattle.std.specs.Prelude.{ℤ, pos, ◌-ℤ◌, unsigned_abs, nat_lt, All}
 use Rattle.std.proofs.lemmas.Bool.Decides.{nat_tests}
 use Rattle.std.proofs.lemmas.List.Elements.{All-nil, All-cons}
 use Rattle.std.proofs.lemmas.List.FromFn.{length-map-range_with_len}
-use Rattle.byteorder.specs.Endian.{little_bytes, little_number}
 use Rattle.wdf_lattice.specs.declared.networks.Networks.{Networks}
 use Rattle.wdf_wav.specs.Header.{IsPcmHead}
 use Rattle.wdf_wav.specs.Laws.{CodesOneSample, CountsBytes, DataAppends, HoldsOneSample, SamplesAppend}
@@ -36,7 +35,7 @@ coding_small : (z : ℤ) → IsSmall (sample_value 16 (sample_coding 16 z))
 unfolding sample_value sample_coding
 coding_small z =
     let n = code_of_value 16 z in
-    let code = little_number 2 (little_bytes 2 n) in
+    let code = n % 256 + 256 * (n / 256 ^ 1 % 256 + 256 * 0) in
     value_small code (two_small (n % 256) (n / 256 ^ 1 % 256) (byte_small n) (byte_small (n / 256 ^ 1))) (nat_lt code 32768) refl
 
 samples_small : SamplesAppend 16 → HoldsOneSample 16 → DataAppends 16 → CodesOneSample 16 → CountsBytes 16 → (zs : List ℤ) → All IsSmall (samples_of 16 (data_of 16 zs))
