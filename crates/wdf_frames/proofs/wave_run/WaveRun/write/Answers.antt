@@ -12,5 +12,5 @@ returns-clause-told g c =
     let same : c.deref_mut.result.now ≡ c.args.self.now.round.value = search rules in
     let behind = c.write_wave.new.round in
     subst (λ (r : Round). OnOk c.write_wave.result ((wave : WritesWave (round_setting r) (g.I.Source.left c.args.input.now) (g.I.Source.left c.write_wave.new.input) (g.O.Sink.written c.args.out.now) (g.O.Sink.written c.write_wave.new.out))
-          × TellsRun (round_setting r) wave.body behind.limited (totals_by behind.runner)))
-      same c.write_wave.ensures.told
+    × TellsRun (round_setting r) wave.body behind.limited (totals_by behind.runner)))
+    same c.write_wave.ensures.told
