@@ -11,6 +11,7 @@ use crate::runs;
 use crate::share::Share;
 
 // Up a chain from the elements at its bottom: `waves` become what its top reflects.
+#[inline(always)]
 fn ascend<const K: u32, const C: usize>(
     shares: &[Share],
     cells: &mut [[Cell; C]],

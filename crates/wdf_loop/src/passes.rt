@@ -8,6 +8,7 @@ use crate::share::Share;
 
 /// The stages `first..end` of a chain on the way up: `waves`, which the elements at its bottom
 /// reflect, become what its top reflects.
+#[inline(always)]
 pub(crate) fn climb<const K: u32, const C: usize>(
     shares: &[Share],
     cells: &mut [[Cell; C]],
@@ -35,6 +36,7 @@ pub(crate) fn climb<const K: u32, const C: usize>(
 
 /// They on the way down: `waves`, which the top is sent, become what the elements at the bottom
 /// are sent.
+#[inline(always)]
 pub(crate) fn descend<const K: u32, const C: usize>(
     shares: &[Share],
     cells: &mut [[Cell; C]],

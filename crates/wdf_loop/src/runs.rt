@@ -10,6 +10,7 @@ use crate::part::Part;
 use crate::share::Share;
 
 /// A junction on the way up, the trees below reflecting `waves`, which become what it reflects.
+#[inline(always)]
 pub(crate) fn rise<const K: u32, const C: usize>(
     row: &mut [Cell; C],
     share: Share,
@@ -26,6 +27,7 @@ pub(crate) fn rise<const K: u32, const C: usize>(
 }
 
 /// The root, the trees below reflecting `waves`, which become what these are sent.
+#[inline(always)]
 pub(crate) fn turn<const K: u32, const C: usize>(
     row: &mut [Cell; C],
     share: Share,
@@ -42,6 +44,7 @@ pub(crate) fn turn<const K: u32, const C: usize>(
 }
 
 /// A junction on the way down, which is sent `waves`; they become what the trees below are sent.
+#[inline(always)]
 pub(crate) fn fall<const K: u32, const C: usize>(
     row: &mut [Cell; C],
     share: Share,

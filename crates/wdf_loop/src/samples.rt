@@ -16,6 +16,7 @@ fn scaled(sample: i64, guard: u8) -> i64
 }
 
 // The samples at every `stride`th place from `at` on, one for each run.
+#[inline(always)]
 fn scale_row<const C: usize>(
     samples: &[i64],
     at: usize,
@@ -34,6 +35,7 @@ fn scale_row<const C: usize>(
 }
 
 // The samples of a frame, which begin at `at`, as rows from `from` on, one for each source.
+#[inline(always)]
 fn scale_frame<const C: usize>(
     samples: &[i64],
     at: usize,
@@ -53,6 +55,34 @@ fn scale_frame<const C: usize>(
 {
     for i in 0..sources {
         scale_row::<C>(samples, at + i, sources, guard, &mut rows[from + i]);
+    }
+}
+
+// Of `count` frames of the samples of `all` runs, those of the runs from `first` on. Where the caller has constants
+// of the code for the places, the loops inside become one.
+#[inline(always)]
+fn scale_frames<const C: usize>(
+    samples: &[i64],
+    all: usize,
+    first: usize,
+    sources: usize,
+    guard: u8,
+    count: usize,
+    rows: &mut [[i64; C]],
+)
+    requires runs { C ≤ 4 }
+    requires guard { guard ≤ 16 }
+    requires amplitude { All (λ s. unsigned_abs s ≤ 2 ^ 31) samples.now }
+    requires few { count * all < 2 ^ 60 }
+    requires within { first + C ≤ all }
+    requires some { 1 ≤ C }
+    requires each { length samples.now ≡ count * all * sources }
+    requires room { length rows.old ≡ count * sources }
+    ensures { HoldFrames C guard all first sources count samples.now rows.new }
+{
+    for f in 0..count {
+        let at = (f * all + first) * sources;
+        scale_frame::<C>(samples, at, sources, guard, rows, f * sources);
     }
 }
 
@@ -77,8 +107,9 @@ pub(crate) fn scale_block<const C: usize>(
     requires room { length rows.old ≡ count * sources }
     ensures { HoldFrames C guard all first sources count samples.now rows.new }
 {
-    for f in 0..count {
-        let at = (f * all + first) * sources;
-        scale_frame::<C>(samples, at, sources, guard, rows, f * sources);
+    if sources == 1 && all == C {
+        scale_frames::<C>(samples, C, 0, 1, guard, count, rows);
+    } else {
+        scale_frames::<C>(samples, all, first, sources, guard, count, rows);
     }
 }

@@ -22,7 +22,8 @@ pub(crate) fn minus(a: i64, b: i64) -> i64
     a - b
 }
 
-/// What an element reflects whose last down wave is `state`, and which is fed `fed`.
+/// What an element reflects whose last down wave is `state`, and which is fed `fed`. The sign stays
+/// the same in all frames, so that a choice costs less than a product.
 pub(crate) fn reflected<const K: u32>(sign: i64, state: i64, fed: i64) -> i64
     requires few { K ≤ 20 }
     requires sign { unsigned_abs sign ≤ 1 }
@@ -30,7 +31,13 @@ pub(crate) fn reflected<const K: u32>(sign: i64, state: i64, fed: i64) -> i64
     requires fed { unsigned_abs fed ≤ 2 ^ 61 }
     ensures { result ≡ sign *ℤ state +ℤ fed }
 {
-    plus(times(sign, state), fed)
+    if sign == 0 {
+        return fed;
+    }
+    if sign < 0 {
+        return minus(fed, state);
+    }
+    plus(fed, state)
 }
 
 /// A value, negated where `flip` says so.

@@ -1,6 +1,6 @@
 use Rattle.std.proofs.Common.{rules, ◌≡◌, ℕ, ◌+◌, ◌*◌, ◌<◌, ◌≤◌, length, sym, subst, arith}
 use Rattle.wdf_loop.proofs.PlaceLemmas.{ahead, frame_more, inside, whole}
-use Rattle.wdf_loop.proofs.samples.scale_block.Goals as goal
+use Rattle.wdf_loop.proofs.samples.scale_frames.Goals as goal
 
 pub overflow_mul-at : goal.overflow_mul-at
 overflow_mul-at g c =
