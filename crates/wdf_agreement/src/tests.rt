@@ -19,9 +19,16 @@ use std::test::Fail;
 const BLOCKS: [usize; 5] = [1, 7, 256, 257, 479];
 
 // What runs, and how many runs it has; several sources have one.
-const SUBJECTS: [(Subject, u8); 5] = [
+const SUBJECTS: [(Subject, u8); 12] = [
+    (Subject::Soaked, 1),
+    (Subject::Soaked, 2),
+    (Subject::Soaked, 3),
+    (Subject::Soaked, 4),
+    (Subject::Soaked, 5),
+    (Subject::Soaked, 6),
     (Subject::Soaked, 7),
-    (Subject::Text(SUBTREES), 7),
+    (Subject::Soaked, 8),
+    (Subject::Text(SUBTREES), 8),
     (Subject::BothSides, 2),
     (Subject::Text(LATTICE), 3),
     (Subject::Text(TWO_SOURCES), 1),

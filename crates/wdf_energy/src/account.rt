@@ -71,7 +71,7 @@ fn column_squares<const C: usize>(
     width: usize,
     count: usize,
 ) -> u128
-    requires runs { C ≤ 4 }
+    requires runs { C ≤ 8 }
     requires column { column < C }
     requires inside { (f : ℕ) → f < count → f * width + from < length rows.now }
     requires room { sum + squares_over (every_row width rows.now column from) count < 2 ^ 124 }
@@ -93,7 +93,7 @@ fn add_columns<const C: usize>(
     rows: &[[i64; C]],
     squares: &mut [u128; 128],
 )
-    requires runs { C ≤ 4 }
+    requires runs { C ≤ 8 }
     requires column { column < C }
     requires few { width ≤ 128 }
     requires rows { length rows.now ≡ count * width }
@@ -152,7 +152,7 @@ impl Account {
         waves: &[[i64; C]],
         downs: &[i64],
     )
-        requires runs { C ≤ 4 }
+        requires runs { C ≤ 8 }
         requires column { column < C }
         requires absorbing { length absorbing.now ≤ 128 }
         requires reactive { AreWalked (length downs.now) reactive.now }

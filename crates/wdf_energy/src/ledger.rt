@@ -120,7 +120,7 @@ impl Ledger {
         waves: &[[i64; C]],
         downs: &[i64],
     )
-        requires runs { C ≤ 4 }
+        requires runs { C ≤ 8 }
         requires channel { channel < length self.old.accounts }
         requires column { column < C }
         requires some { 1 ≤ count }

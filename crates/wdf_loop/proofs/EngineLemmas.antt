@@ -28,7 +28,7 @@ use Rattle.wdf_loop.specs.declared.groups.Groups.{Groups}
 use Rattle.wdf_loop.specs.declared.mark.Mark.{Mark}
 use Rattle.wdf_loop.specs.declared.place.Place.{Place}
 use Rattle.wdf_loop.specs.declared.run_group.RunGroup.{RunGroup}
-use Rattle.wdf_loop.specs.declared.run_group.RunGroup.TheVariants.{None, One, Two, Four}
+use Rattle.wdf_loop.specs.declared.run_group.RunGroup.TheVariants.{None, One, Two, Four, Eight}
 use Rattle.wdf_loop.specs.declared.setting.Setting.{Setting}
 use Rattle.wdf_loop.specs.declared.share.Share.{Share}
 use Rattle.wdf_loop.specs.Advances.{IsAt, root_of}
@@ -39,6 +39,7 @@ use Rattle.wdf_loop.specs.KeptEngines.{IsEngine, engine_of}
 use Rattle.wdf_loop.specs.Layouts.{mark_at, share_at}
 use Rattle.wdf_loop.specs.NextFrames.{Stands}
 use Rattle.wdf_loop.specs.Places.{Holds as IsIn}
+use Rattle.wdf_loop.specs.LaneCells.{lane_cells}
 use Rattle.wdf_loop.specs.RunGroups.{Goes, IsGroup, cells_of, left_by, sent_of, shown_in, width}
 use Rattle.wdf_loop.specs.Runs.{cell_at}
 use Rattle.wdf_loop.specs.Settings.{IsSetting}
@@ -161,7 +162,8 @@ told_group : (t : Setting) (done : ℕ) (g : RunGroup) → IsSetting t → IsGro
 told_group t done None set at c small = absurd (omega (arith, small))
 told_group t done (One cells values waves) set at c small = told_in t done cells.items c set at.stages (at.at c small)
 told_group t done (Two cells values waves) set at c small = told_in t done cells.items c set at.stages (at.at c small)
-told_group t done (Four cells values waves) set at c small = told_in t done cells.items c set at.stages (at.at c small)
+told_group t done (Four cells values waves) set at c small = told_in t done (map lane_cells cells.items) c set at.stages (at.at c small)
+told_group t done (Eight cells values waves) set at c small = told_in t done (map lane_cells cells.items) c set at.stages (at.at c small)
 
 told : (t : Setting) (done : ℕ) (g : Groups) → IsSetting t → AreAt t done g → (run : ℕ) → run < run_count g → IsTold t done (shown_for t g run)
 told t done g set at run small =
@@ -296,7 +298,8 @@ value_in_group : (t : Setting) (done : ℕ) (g : RunGroup) (slot : ℕ) (place :
 value_in_group t done None slot place set at few inside held c small = absurd (omega (arith, small))
 value_in_group t done (One cells values waves) slot place set at few inside held c small = value_in_cells t done cells.items c slot place set at.stages (at.at c small) few inside held
 value_in_group t done (Two cells values waves) slot place set at few inside held c small = value_in_cells t done cells.items c slot place set at.stages (at.at c small) few inside held
-value_in_group t done (Four cells values waves) slot place set at few inside held c small = value_in_cells t done cells.items c slot place set at.stages (at.at c small) few inside held
+value_in_group t done (Four cells values waves) slot place set at few inside held c small = value_in_cells t done (map lane_cells cells.items) c slot place set at.stages (at.at c small) few inside held
+value_in_group t done (Eight cells values waves) slot place set at few inside held c small = value_in_cells t done (map lane_cells cells.items) c slot place set at.stages (at.at c small) few inside held
 
 pub value_shown : (t : Setting) (g : Groups) (done run slot : ℕ) (place : Place) → IsEngine t g done → run < run_count g → slot < t.schedule.slot_count → place.stage < length t.layout.marks.items
     → IsIn place.field (share_at t.layout.shares.items place.stage) (mark_at t.layout.marks.items place.stage) slot → value_for g run place ≡ slot_of (engine_of t g done) run slot
@@ -319,6 +322,7 @@ place_in_group t done stage None at inside some = absurd (omega (arith, some))
 place_in_group t done stage (One cells values waves) at inside some = let long = at.stages in omega (arith, long, inside)
 place_in_group t done stage (Two cells values waves) at inside some = let long = at.stages in omega (arith, long, inside)
 place_in_group t done stage (Four cells values waves) at inside some = let long = at.stages in omega (arith, long, inside)
+place_in_group t done stage (Eight cells values waves) at inside some = let long = at.stages in omega (arith, long, inside)
 
 pub have_place : (t : Setting) (g : Groups) (done : ℕ) (place : Place) → IsEngine t g done → place.stage < length t.layout.marks.items → HavePlace place g
 have_place t g done place kept inside =

@@ -1,8 +1,9 @@
 -- One run more in a ledger's accounts.
 use Rattle.std.proofs.Common.{◌≡◌, ℕ, ◌+◌, ◌<◌, ◌≤◌, List, length, refl, sym, ◌∙◌, subst, arith}
-use Rattle.std.specs.Prelude.{ℤ}
+use Rattle.std.specs.Prelude.{ℤ, pos, slice_index_or, slice_set}
 use mathlib.Core.Logic.{◌⊎◌, inl, inr}
 use Rattle.std.proofs.lemmas.Bool.{cases_lt}
+use Rattle.std.proofs.lemmas.List.{get_or-set_same, get_or-set_other}
 use Rattle.wdf_law.specs.Network.{Network, source_numbers}
 use Rattle.wdf_energy.specs.Accounts.{AccountOf, LedgerOf, account_at}
 use Rattle.wdf_energy.specs.Blocks.{AreLast, HasRoomFor, HaveSent, NotesOver, frame_column}
@@ -54,3 +55,14 @@ noted_more c first count every cells values waves a b d one two so_far now k sma
             subst (λ (x : AccountOf). NotesOver a.net count (values_of a values c) s x (account_at d (first + c))) (same_next c first a b one)
             (subst (λ (n : Network). NotesOver n count (frame_column (length (source_numbers n)) values c) s (account_at b (first + c)) (account_at d (first + c))) one.net
             (now s (subst (λ (n : Network). HaveSent n count s waves c) (sym one.net) have) (subst (λ (n : Network). AreLast n count s (sent_last every cells c)) (sym one.net) last)))
+
+-- one place more is filled
+pub filled_more : (xs : List ℤ) (i : ℕ) (z : ℤ) (f : ℕ → ℤ) → i < length xs → ((k : ℕ) → k < i → slice_index_or xs k (pos 0) ≡ f k) → z ≡ f i
+    → (k : ℕ) → k < i + 1 → slice_index_or (slice_set xs i z) k (pos 0) ≡ f k
+filled_more xs i z f inside before here k h = by (cases_lt k i)
+  where
+    by : (k < i) ⊎ (i ≤ k) → slice_index_or (slice_set xs i z) k (pos 0) ≡ f k
+    by (inl less) = get_or-set_other xs i k z (pos 0) (λ e. absurd (omega arith)) ∙ before k less
+    by (inr least) =
+        let at : i ≡ k = omega arith in
+        subst (λ (n : ℕ). slice_index_or (slice_set xs i z) n (pos 0) ≡ f n) at (get_or-set_same xs i z (pos 0) inside ∙ here)

@@ -5,6 +5,7 @@ pub mod Cells
 pub mod Chains
 pub mod Engines
 pub mod Feeds
+pub mod LaneCells
 pub mod Frames
 pub mod Inputs
 pub mod KeptEngines
@@ -13,6 +14,7 @@ pub mod Leaves
 pub mod Limiting
 pub mod Marked
 pub mod NextFrames
+pub mod Pairs
 pub mod Parts
 pub mod Places
 pub mod Rows

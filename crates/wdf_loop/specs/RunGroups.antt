@@ -1,4 +1,4 @@
--- Runs that go on side by side, 4, 2 or 1 of them or none.
+-- Runs that go on side by side, 8, 4, 2 or 1 of them or none.
 use Rattle.std.specs.Prelude.{◌≡◌, ℕ, ◌+◌, ◌*◌, ◌<◌, ◌≤◌, ◌⊎◌, ℤ, pos, nat_le, if◌then◌else◌, List, [], length, map, slice_index_or}
 use Rattle.wdf_law.specs.Network.{reactances}
 use Rattle.wdf_energy.specs.Accounts.{AccountOf, LedgerOf, account_at}
@@ -6,9 +6,10 @@ use Rattle.wdf_sched.specs.Meaning.{slot_at}
 use Rattle.wdf_sched.specs.Schedules.{ScheduleValue}
 use Rattle.wdf_loop.specs.declared.cell.Cell.{Cell}
 use Rattle.wdf_loop.specs.declared.run_group.RunGroup.{RunGroup}
-use Rattle.wdf_loop.specs.declared.run_group.RunGroup.TheVariants.{None, One, Two, Four}
+use Rattle.wdf_loop.specs.declared.run_group.RunGroup.TheVariants.{None, One, Two, Four, Eight}
 use Rattle.wdf_loop.specs.declared.setting.Setting.{Setting}
 use Rattle.wdf_loop.specs.Advances.{AllAreAt}
+use Rattle.wdf_loop.specs.LaneCells.{lane_cells}
 use Rattle.wdf_loop.specs.RunAccounts.{HoldRuns, KeepsAccounts}
 use Rattle.wdf_loop.specs.RunFrames.{RunsOn}
 use Rattle.wdf_loop.specs.SlotValues.{value_in}
@@ -19,16 +20,18 @@ width None = 0
 width (One cells values waves) = 1
 width (Two cells values waves) = 2
 width (Four cells values waves) = 4
+width (Eight cells values waves) = 8
 
 abbrev pub cells_of : RunGroup → List (List Cell)
 cells_of None = []
 cells_of (One cells values waves) = cells.items
 cells_of (Two cells values waves) = cells.items
-cells_of (Four cells values waves) = cells.items
+cells_of (Four cells values waves) = map lane_cells cells.items
+cells_of (Eight cells values waves) = map lane_cells cells.items
 
 -- the greatest group of at most so many runs
 abbrev pub greatest_width : ℕ → ℕ
-greatest_width most = if nat_le 4 most then 4 else if nat_le 2 most then 2 else if nat_le 1 most then 1 else 0
+greatest_width most = if nat_le 8 most then 8 else if nat_le 4 most then 4 else if nat_le 2 most then 2 else if nat_le 1 most then 1 else 0
 
 -- the cells of so many runs after so many frames, and rows for the values and waves of a piece
 pub record AreRuns (runs : ℕ) (t : Setting) (done : ℕ) (cells : List (List Cell)) (values waves : List (List ℤ)) : Type 0 where
@@ -41,7 +44,8 @@ abbrev pub IsGroup : Setting → ℕ → RunGroup → Type 0
 IsGroup t done None = Unit {0}
 IsGroup t done (One cells values waves) = AreRuns 1 t done cells.items values.items waves.items
 IsGroup t done (Two cells values waves) = AreRuns 2 t done cells.items values.items waves.items
-IsGroup t done (Four cells values waves) = AreRuns 4 t done cells.items values.items waves.items
+IsGroup t done (Four cells values waves) = AreRuns 4 t done (map lane_cells cells.items) values.items waves.items
+IsGroup t done (Eight cells values waves) = AreRuns 8 t done (map lane_cells cells.items) values.items waves.items
 
 -- what a slot holds for the run c of a group
 abbrev pub shown_in : Setting → List (List Cell) → ℕ → ℕ → ℤ

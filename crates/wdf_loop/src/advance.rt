@@ -1,5 +1,5 @@
 // Runs of a schedule that go on by a block of frames.
-ghost use Rattle.std.specs.Prelude.{◌≡◌, ◌+◌, ◌*◌, ◌≤◌, length};
+ghost use Rattle.std.specs.Prelude.{◌≡◌, ◌+◌, ◌*◌, ◌≤◌, length, map};
 ghost use Rattle.wdf_law.specs.Network.{absorbing_numbers};
 ghost use Rattle.wdf_bounds.specs.WordBound.{Fits};
 ghost use Rattle.wdf_loop.specs.Advances.{AllAreAt, AllGoOn, root_of};
@@ -7,10 +7,9 @@ ghost use Rattle.wdf_loop.specs.Inputs.{AreAllowed};
 ghost use Rattle.wdf_loop.specs.Layouts.{IsLayout};
 ghost use Rattle.wdf_loop.specs.Parts.{AreParts, absorbing_at};
 
-use crate::cell::Cell;
+use crate::any_row::AnyRow;
 use crate::layout::Layout;
 use crate::part::Part;
-use crate::width::block_of;
 use wdf_bounds::Plan;
 use wdf_sched::Schedule;
 
@@ -19,18 +18,18 @@ use wdf_sched::Schedule;
 /// larger than the plan's greatest sample with its guard bits. `waves` comes to have a row for each
 /// resistor and source of each frame, in netlist order, with what it is sent; `absorbing` are their
 /// parts. `done` counts the frames.
-pub(crate) fn advance<const C: usize>(
+pub(crate) fn advance<const C: usize, R: AnyRow<C>>(
     schedule: &Schedule,
     plan: &Plan,
     layout: &Layout,
     absorbing: &[Part],
-    cells: &mut [[Cell; C]],
+    cells: &mut [R],
     count: usize,
     values: &[[i64; C]],
     waves: &mut [[i64; C]],
     done: u32,
 )
-    requires runs { C ≤ 4 }
+    requires runs { C ≤ 8 }
     requires fits { Fits schedule.now.net plan.now }
     requires layout { IsLayout schedule.now layout.now.shares.items layout.now.marks.items layout.now.chains.items layout.now.feeds.items }
     requires stages { length cells.old ≡ length layout.now.shares.items }
@@ -39,8 +38,8 @@ pub(crate) fn advance<const C: usize>(
     requires waves { length waves.old ≡ count * length absorbing.now }
     requires allowed { AreAllowed C plan.now values.now }
     requires frames { done + count ≤ plan.now.frames }
-    requires run { AllAreAt C schedule.now plan.now done layout.now.shares.items layout.now.marks.items layout.now.chains.items layout.now.feeds.items cells.old }
-    ensures { AllGoOn C schedule.now plan.now done count layout.now.shares.items layout.now.marks.items layout.now.chains.items layout.now.feeds.items cells.old values.now cells.new waves.new }
+    requires run { AllAreAt C schedule.now plan.now done layout.now.shares.items layout.now.marks.items layout.now.chains.items layout.now.feeds.items (map R.cells cells.old) }
+    ensures { AllGoOn C schedule.now plan.now done count layout.now.shares.items layout.now.marks.items layout.now.chains.items layout.now.feeds.items (map R.cells cells.old) values.now (map R.cells cells.new) waves.new }
 {
     schedule.rules();
     plan.rules();
@@ -51,7 +50,7 @@ pub(crate) fn advance<const C: usize>(
     wdf_bounds::laws::every_word(net, plan);
     wdf_sched::laws::values(schedule);
     let root = layout.shares.len() - 1;
-    block_of::<C>(
+    R::block_of(
         net.k(),
         &layout.shares,
         &layout.chains,

@@ -3,6 +3,7 @@ ghost use Rattle.wdf_algebra.specs.JunctionValues.{parallel_value};
 ghost use Rattle.wdf_algebra.specs.Truncation.{trunc};
 ghost use Rattle.wdf_loop.specs.Cells.{AreWords, CanBegin, CanFall, CanRise, IsWord, bottom, fallen, fallen_parallel, fallen_series, given, reflects, risen, risen_parallel, risen_series, turned, value_of, wave_up};
 ghost use Rattle.wdf_loop.specs.Parts.{sent_to};
+ghost use Rattle.wdf_loop.specs.RunCells.{silent};
 
 use crate::feed::Feed;
 use crate::field::Field;
@@ -32,6 +33,21 @@ pub(crate) struct Cell {
 }
 
 impl Cell {
+    /// A cell before any frame.
+    pub(crate) fn silent() -> Cell
+        ensures { result ≡ silent }
+    {
+        Cell {
+            fed: 0,
+            under: 0,
+            up: 0,
+            below: 0,
+            raw: 0,
+            down: 0,
+            onward: 0,
+        }
+    }
+
     // What the part beside reflects.
     fn reflected<const K: u32>(&self, share: Share) -> i64
         requires few { K ≤ 20 }

@@ -1,5 +1,5 @@
 // A block of frames of some of an engine's runs.
-ghost use Rattle.std.specs.Prelude.{◌≡◌, ℕ, ◌+◌, ◌*◌, ◌<◌, ◌≤◌, ◌^◌, ◌⊎◌, pos, unsigned_abs, length, slice_index_or, All};
+ghost use Rattle.std.specs.Prelude.{◌≡◌, ℕ, ◌+◌, ◌*◌, ◌<◌, ◌≤◌, ◌^◌, ◌⊎◌, pos, unsigned_abs, length, map, slice_index_or, All};
 ghost use Rattle.wdf_bounds.specs.WordBound.{Fits};
 ghost use Rattle.wdf_energy.specs.Accounts.{account_at};
 ghost use Rattle.wdf_loop.specs.Advances.{AllAreAt, root_of};
@@ -10,7 +10,7 @@ ghost use Rattle.wdf_loop.specs.RunFrames.{RunsOn};
 ghost use Rattle.wdf_loop.specs.SlotValues.{sent_by, state_by, value_in};
 
 use crate::advance::advance;
-use crate::cell::Cell;
+use crate::any_row::AnyRow;
 use crate::layout::Layout;
 use crate::notes::note_runs;
 use crate::outlet::Outlet;
@@ -26,13 +26,13 @@ use wdf_sched::Schedule;
 /// one run behind those of the other, one for each source; `output` has a place for a load wave of
 /// each run in each frame. `values` and `waves` are room for the frames' values and the waves that
 /// resistors and sources are sent, a row for each of these in each frame.
-pub(crate) fn group_block<const C: usize>(
+pub(crate) fn group_block<const C: usize, R: AnyRow<C>>(
     schedule: &Schedule,
     plan: &Plan,
     layout: &Layout,
     parts: &Parts,
     outlet: Outlet,
-    cells: &mut [[Cell; C]],
+    cells: &mut [R],
     done: u32,
     all: usize,
     first: usize,
@@ -44,7 +44,7 @@ pub(crate) fn group_block<const C: usize>(
     ledger: &mut Ledger,
 )
     requires some { 1 ≤ C }
-    requires runs { C ≤ 4 }
+    requires runs { C ≤ 8 }
     requires within { first + C ≤ all }
     requires fits { Fits schedule.now.net plan.now }
     requires layout { IsLayout schedule.now layout.now.shares.items layout.now.marks.items layout.now.chains.items layout.now.feeds.items }
@@ -59,15 +59,15 @@ pub(crate) fn group_block<const C: usize>(
     requires waves { length waves.old ≡ count * length parts.now.absorbing.items }
     requires places { length output.old ≡ count * all }
     requires frames { done + count ≤ plan.now.frames }
-    requires at { AllAreAt C schedule.now plan.now done layout.now.shares.items layout.now.marks.items layout.now.chains.items layout.now.feeds.items cells.old }
-    requires ledger { HoldRuns C first schedule.now plan.now done layout.now.shares.items layout.now.marks.items cells.old ledger.old }
-    ensures at { AllAreAt C schedule.now plan.now (done + count) layout.now.shares.items layout.now.marks.items layout.now.chains.items layout.now.feeds.items cells.new }
+    requires at { AllAreAt C schedule.now plan.now done layout.now.shares.items layout.now.marks.items layout.now.chains.items layout.now.feeds.items (map R.cells cells.old) }
+    requires ledger { HoldRuns C first schedule.now plan.now done layout.now.shares.items layout.now.marks.items (map R.cells cells.old) ledger.old }
+    ensures at { AllAreAt C schedule.now plan.now (done + count) layout.now.shares.items layout.now.marks.items layout.now.chains.items layout.now.feeds.items (map R.cells cells.new) }
     ensures on { (c : ℕ) → c < C → RunsOn schedule.now.net plan.now all count samples.now output.new (first + c)
-        (state_by schedule.now layout.now.shares.items layout.now.marks.items cells.old c) (state_by schedule.now layout.now.shares.items layout.now.marks.items cells.new c)
-        (value_in layout.now.shares.items layout.now.marks.items cells.new c) (sent_by schedule.now layout.now.shares.items layout.now.marks.items cells.new c) (account_at ledger.old (first + c)) (account_at ledger.new (first + c)) }
+        (state_by schedule.now layout.now.shares.items layout.now.marks.items (map R.cells cells.old) c) (state_by schedule.now layout.now.shares.items layout.now.marks.items (map R.cells cells.new) c)
+        (value_in layout.now.shares.items layout.now.marks.items (map R.cells cells.new) c) (sent_by schedule.now layout.now.shares.items layout.now.marks.items (map R.cells cells.new) c) (account_at ledger.old (first + c)) (account_at ledger.new (first + c)) }
     ensures others { (f run : ℕ) → run < all → (run < first) ⊎ (first + C ≤ run)
         → slice_index_or output.new (f * all + run) (pos 0) ≡ slice_index_or output.old (f * all + run) (pos 0) }
-    ensures ledger { HoldRuns C first schedule.now plan.now (done + count) layout.now.shares.items layout.now.marks.items cells.new ledger.new }
+    ensures ledger { HoldRuns C first schedule.now plan.now (done + count) layout.now.shares.items layout.now.marks.items (map R.cells cells.new) ledger.new }
     ensures accounts { KeepsAccounts C first ledger.old ledger.new }
 {
     schedule.rules();
@@ -88,7 +88,7 @@ pub(crate) fn group_block<const C: usize>(
         count,
         values,
     );
-    advance::<C>(
+    advance::<C, R>(
         schedule,
         plan,
         layout,
@@ -108,5 +108,5 @@ pub(crate) fn group_block<const C: usize>(
         first,
         output,
     );
-    note_runs::<C>(&parts.every, cells, first, count, values, waves, ledger);
+    note_runs::<C, R>(&parts.every, cells, first, count, values, waves, ledger);
 }

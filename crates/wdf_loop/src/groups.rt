@@ -48,7 +48,7 @@ impl Groups {
     /// How many runs there are.
     pub(crate) fn count(&self) -> usize
         ensures value { result ≡ run_count self.now }
-        ensures few { result ≤ 12 }
+        ensures few { result ≤ 24 }
     {
         self.first.width() + self.second.width() + self.third.width()
     }

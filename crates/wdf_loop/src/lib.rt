@@ -7,6 +7,7 @@
 #![tactic(auto)]
 
 mod advance;
+mod any_row;
 mod ascent;
 mod block;
 mod cell;
@@ -24,6 +25,8 @@ mod field;
 mod frame;
 mod group;
 mod groups;
+mod lane_cells;
+mod lanes;
 mod layout;
 mod leaf;
 mod limited;
@@ -31,6 +34,8 @@ mod mark;
 mod notes;
 mod outlet;
 mod outputs;
+mod pair_passes;
+mod pairs;
 mod part;
 mod parts;
 mod passes;
@@ -44,6 +49,7 @@ mod samples;
 mod setting;
 mod share;
 mod stage;
+mod stage_row;
 mod step;
 mod sums;
 #[cfg(test)]

@@ -30,7 +30,7 @@ pub(crate) fn give_block<const C: usize>(
     first: usize,
     output: &mut [i64],
 )
-    requires runs { C ≤ 4 }
+    requires runs { C ≤ 8 }
     requires within { first + C ≤ all }
     requires outlet { outlet.place < width }
     requires rows { length waves.now ≡ count * width }

@@ -1,35 +1,34 @@
 // The stages of a chain on the way up and down, in several runs at once.
-ghost use Rattle.std.specs.Prelude.{◌≡◌, ◌≤◌, ◌^◌, length};
+ghost use Rattle.std.specs.Prelude.{◌≡◌, ◌≤◌, ◌^◌, length, map};
 ghost use Rattle.wdf_loop.specs.Runs.{AllCanClimb, AllCanDescend, AreShares, HaveClimbed, HaveDescended, KeepsOthers};
 
-use crate::cell::Cell;
-use crate::runs;
 use crate::share::Share;
+use crate::stage_row::StageRow;
 
 /// The stages `first..end` of a chain on the way up: `waves`, which the elements at its bottom
 /// reflect, become what its top reflects.
 #[inline(always)]
-pub(crate) fn climb<const K: u32, const C: usize>(
+pub(crate) fn climb<const K: u32, const C: usize, R: StageRow<K, C>>(
     shares: &[Share],
-    cells: &mut [[Cell; C]],
+    cells: &mut [R],
     first: usize,
     end: usize,
     waves: &mut [i64; C],
 )
     requires few { K ≤ 20 }
-    requires runs { C ≤ 4 }
+    requires runs { C ≤ 8 }
     requires order { first ≤ end }
     requires inside { end ≤ length cells.old }
     requires each { length shares.now ≡ length cells.old }
     requires shares { AreShares (2 ^ K) shares.now }
-    requires can { AllCanClimb C (2 ^ K) shares.now first end cells.old waves.old }
-    ensures climb { HaveClimbed C (2 ^ K) shares.now first end end cells.old waves.old cells.new waves.new }
-    ensures others { KeepsOthers first end cells.old cells.new }
+    requires can { AllCanClimb C (2 ^ K) shares.now first end (map R.cells cells.old) waves.old }
+    ensures climb { HaveClimbed C (2 ^ K) shares.now first end end (map R.cells cells.old) waves.old (map R.cells cells.new) waves.new }
+    ensures others { KeepsOthers first end (map R.cells cells.old) (map R.cells cells.new) }
 {
     // In a place of their own the waves need not be stored at each stage.
     let mut held = *waves;
     for j in first..end {
-        runs::rise::<K, C>(&mut cells[j], shares[j], &mut held);
+        cells[j].rise(shares[j], &mut held);
     }
     *waves = held;
 }
@@ -37,28 +36,28 @@ pub(crate) fn climb<const K: u32, const C: usize>(
 /// They on the way down: `waves`, which the top is sent, become what the elements at the bottom
 /// are sent.
 #[inline(always)]
-pub(crate) fn descend<const K: u32, const C: usize>(
+pub(crate) fn descend<const K: u32, const C: usize, R: StageRow<K, C>>(
     shares: &[Share],
-    cells: &mut [[Cell; C]],
+    cells: &mut [R],
     first: usize,
     end: usize,
     waves: &mut [i64; C],
 )
     requires some { 1 ≤ K }
     requires few { K ≤ 20 }
-    requires runs { C ≤ 4 }
+    requires runs { C ≤ 8 }
     requires order { first ≤ end }
     requires inside { end ≤ length cells.old }
     requires each { length shares.now ≡ length cells.old }
     requires shares { AreShares (2 ^ K) shares.now }
-    requires can { AllCanDescend C (2 ^ K) shares.now first end cells.old waves.old }
-    ensures descend { HaveDescended C (2 ^ K) shares.now first end first cells.old waves.old cells.new waves.new }
-    ensures others { KeepsOthers first end cells.old cells.new }
+    requires can { AllCanDescend C (2 ^ K) shares.now first end (map R.cells cells.old) waves.old }
+    ensures descend { HaveDescended C (2 ^ K) shares.now first end first (map R.cells cells.old) waves.old (map R.cells cells.new) waves.new }
+    ensures others { KeepsOthers first end (map R.cells cells.old) (map R.cells cells.new) }
 {
     let mut held = *waves;
     for done in 0..end - first {
         let j = end - 1 - done;
-        runs::fall::<K, C>(&mut cells[j], shares[j], &mut held);
+        cells[j].fall(shares[j], &mut held);
     }
     *waves = held;
 }

@@ -1,38 +1,26 @@
 // The beginning of runs.
-ghost use Rattle.std.specs.Prelude.{◌≡◌, ◌≤◌, length, replicate, IfOk};
+ghost use Rattle.std.specs.Prelude.{◌≡◌, ◌≤◌, length, map, replicate, IfOk};
 ghost use Rattle.wdf_bounds.specs.WordBound.{Fits};
 ghost use Rattle.wdf_loop.specs.Advances.{AllAreAt};
 ghost use Rattle.wdf_loop.specs.RunCells.{silent};
 
-use crate::cell::Cell;
 use crate::layout::Layout;
+use crate::stage_row::RunRow;
 use std::alloc::{AllocError, Global};
 use wdf_bounds::Plan;
 use wdf_sched::Schedule;
 
-// A cell before any frame.
-fn silent() -> Cell
-    ensures { result ≡ silent }
-{
-    Cell {
-        fed: 0,
-        under: 0,
-        up: 0,
-        below: 0,
-        raw: 0,
-        down: 0,
-        onward: 0,
-    }
-}
-
 // The cells of so many stages before any frame.
-fn cells_at_rest<const C: usize>(alloc: Global, stages: usize) -> Result<Vec<[Cell; C]>, AllocError>
-    requires { C ≤ 4 }
-    ensures { IfOk result (λ v. v.items ≡ replicate stages (replicate C silent)) }
+fn cells_at_rest<const C: usize, R: RunRow<C> + Drop>(
+    alloc: Global,
+    stages: usize,
+) -> Result<Vec<R>, AllocError>
+    requires { C ≤ 8 }
+    ensures { IfOk result (λ v. map R.cells v.items ≡ replicate stages (replicate C silent)) }
 {
     let mut cells = Vec::new(alloc);
     for _ in 0..stages {
-        cells.push([silent(); C])?;
+        cells.push(R::at_rest())?;
     }
     Ok(cells)
 }
@@ -42,19 +30,19 @@ fn cells_at_rest<const C: usize>(alloc: Global, stages: usize) -> Result<Vec<[Ce
 /// # Errors
 ///
 /// Where no memory is left.
-pub(crate) fn at_rest<const C: usize>(
+pub(crate) fn at_rest<const C: usize, R: RunRow<C> + Drop>(
     alloc: Global,
     schedule: &Schedule,
     plan: &Plan,
     layout: &Layout,
-) -> Result<Vec<[Cell; C]>, AllocError>
-    requires runs { C ≤ 4 }
+) -> Result<Vec<R>, AllocError>
+    requires runs { C ≤ 8 }
     requires fits { Fits schedule.now.net plan.now }
     ensures stages { IfOk result (λ v. length v.items ≡ length layout.now.shares.items) }
-    ensures silent { IfOk result (λ v. v.items ≡ replicate (length layout.now.shares.items) (replicate C silent)) }
-    ensures rest { IfOk result (λ v. AllAreAt C schedule.now plan.now 0 layout.now.shares.items layout.now.marks.items layout.now.chains.items layout.now.feeds.items v.items) }
+    ensures silent { IfOk result (λ v. map R.cells v.items ≡ replicate (length layout.now.shares.items) (replicate C silent)) }
+    ensures rest { IfOk result (λ v. AllAreAt C schedule.now plan.now 0 layout.now.shares.items layout.now.marks.items layout.now.chains.items layout.now.feeds.items (map R.cells v.items)) }
 {
     wdf_bounds::laws::every_word(schedule.net(), plan);
-    let cells = cells_at_rest::<C>(alloc, layout.shares.len())?;
+    let cells = cells_at_rest::<C, R>(alloc, layout.shares.len())?;
     Ok(cells)
 }

@@ -1,16 +1,19 @@
 // Some of an engine's runs.
-ghost use Rattle.std.specs.Prelude.{◌≡◌, ◌+◌, ◌<◌, ◌≤◌, pos, length, IfOk};
+ghost use Rattle.std.specs.Prelude.{◌≡◌, ◌+◌, ◌<◌, ◌≤◌, pos, length, map, IfOk};
 ghost use Rattle.wdf_loop.specs.Cells.{value_of};
 ghost use Rattle.wdf_loop.specs.RunGroups.{AreRuns, HaveGone, IsGroup, AreSilent, cells_of, greatest_width, width};
 ghost use Rattle.wdf_loop.specs.RunAccounts.{HoldRuns};
 ghost use Rattle.wdf_loop.specs.Runs.{cell_at};
 ghost use Rattle.wdf_loop.specs.Settings.{IsPiece, IsSetting};
 
+use crate::any_row::AnyRow;
 use crate::cell::Cell;
 use crate::group::group_block;
+use crate::lane_cells::LaneCells;
 use crate::place::Place;
 use crate::rest::at_rest;
 use crate::setting::Setting;
+use crate::stage_row::RunRow;
 use std::alloc::{AllocError, Global};
 use wdf_energy::Ledger;
 
@@ -30,15 +33,20 @@ pub(crate) enum RunGroup {
         waves: Vec<[i64; 2]>,
     },
     Four {
-        cells: Vec<[Cell; 4]>,
+        cells: Vec<LaneCells<4>>,
         values: Vec<[i64; 4]>,
         waves: Vec<[i64; 4]>,
+    },
+    Eight {
+        cells: Vec<LaneCells<8>>,
+        values: Vec<[i64; 8]>,
+        waves: Vec<[i64; 8]>,
     },
 }
 
 // Room for so many rows.
 fn room<const C: usize>(alloc: Global, rows: usize) -> Result<Vec<[i64; C]>, AllocError>
-    requires few { C ≤ 4 }
+    requires few { C ≤ 8 }
     ensures { IfOk result (λ v. length v.items ≡ rows) }
 {
     let mut room = Vec::new(alloc);
@@ -49,32 +57,32 @@ fn room<const C: usize>(alloc: Global, rows: usize) -> Result<Vec<[i64; C]>, All
 }
 
 // The next frames of so many runs, no more than there is room for.
-fn run_piece<const C: usize>(
+fn run_piece<const C: usize, R: AnyRow<C>>(
     setting: &Setting,
     done: u32,
     all: usize,
     first: usize,
     count: usize,
     samples: &[i64],
-    cells: &mut [[Cell; C]],
+    cells: &mut [R],
     values: &mut [[i64; C]],
     waves: &mut [[i64; C]],
     output: &mut [i64],
     ledger: &mut Ledger,
 )
     requires some { 1 ≤ C }
-    requires runs { C ≤ 4 }
+    requires runs { C ≤ 8 }
     requires within { first + C ≤ all }
     requires setting { IsSetting setting.now }
     requires piece { IsPiece setting.now done all count samples.now output.old }
-    requires at { AreRuns C setting.now done cells.old values.old waves.old }
-    requires ledger { HoldRuns C first setting.now.schedule setting.now.plan done setting.now.layout.shares.items setting.now.layout.marks.items cells.old ledger.old }
-    ensures at { AreRuns C setting.now (done + count) cells.new values.new waves.new }
-    ensures gone { HaveGone C first setting.now done all count samples.now output.old output.new cells.old cells.new ledger.old ledger.new }
+    requires at { AreRuns C setting.now done (map R.cells cells.old) values.old waves.old }
+    requires ledger { HoldRuns C first setting.now.schedule setting.now.plan done setting.now.layout.shares.items setting.now.layout.marks.items (map R.cells cells.old) ledger.old }
+    ensures at { AreRuns C setting.now (done + count) (map R.cells cells.new) values.new waves.new }
+    ensures gone { HaveGone C first setting.now done all count samples.now output.old output.new (map R.cells cells.old) (map R.cells cells.new) ledger.old ledger.new }
 {
     let sources = setting.layout.feeds.len();
     let absorbing = setting.parts.absorbing.len();
-    group_block::<C>(
+    group_block::<C, R>(
         &setting.schedule,
         &setting.plan,
         &setting.layout,
@@ -94,7 +102,7 @@ fn run_piece<const C: usize>(
 }
 
 impl RunGroup {
-    /// At most so many runs at rest: 4, 2, 1 or none.
+    /// At most so many runs at rest: 8, 4, 2, 1 or none.
     ///
     /// # Errors
     ///
@@ -111,23 +119,50 @@ impl RunGroup {
     {
         let values = setting.piece * setting.layout.feeds.len();
         let waves = setting.piece * setting.parts.absorbing.len();
+        if most >= 8 {
+            return Ok(RunGroup::Eight {
+                cells: at_rest::<8, LaneCells<8>>(
+                    alloc,
+                    &setting.schedule,
+                    &setting.plan,
+                    &setting.layout,
+                )?,
+                values: room::<8>(alloc, values)?,
+                waves: room::<8>(alloc, waves)?,
+            });
+        }
         if most >= 4 {
             return Ok(RunGroup::Four {
-                cells: at_rest::<4>(alloc, &setting.schedule, &setting.plan, &setting.layout)?,
+                cells: at_rest::<4, LaneCells<4>>(
+                    alloc,
+                    &setting.schedule,
+                    &setting.plan,
+                    &setting.layout,
+                )?,
                 values: room::<4>(alloc, values)?,
                 waves: room::<4>(alloc, waves)?,
             });
         }
         if most >= 2 {
             return Ok(RunGroup::Two {
-                cells: at_rest::<2>(alloc, &setting.schedule, &setting.plan, &setting.layout)?,
+                cells: at_rest::<2, [Cell; 2]>(
+                    alloc,
+                    &setting.schedule,
+                    &setting.plan,
+                    &setting.layout,
+                )?,
                 values: room::<2>(alloc, values)?,
                 waves: room::<2>(alloc, waves)?,
             });
         }
         if most >= 1 {
             return Ok(RunGroup::One {
-                cells: at_rest::<1>(alloc, &setting.schedule, &setting.plan, &setting.layout)?,
+                cells: at_rest::<1, [Cell; 1]>(
+                    alloc,
+                    &setting.schedule,
+                    &setting.plan,
+                    &setting.layout,
+                )?,
                 values: room::<1>(alloc, values)?,
                 waves: room::<1>(alloc, waves)?,
             });
@@ -138,13 +173,14 @@ impl RunGroup {
     /// How many runs they are.
     pub(crate) fn width(&self) -> usize
         ensures value { result ≡ width self.now }
-        ensures few { result ≤ 4 }
+        ensures few { result ≤ 8 }
     {
         match self {
             RunGroup::None => 0,
             RunGroup::One { .. } => 1,
             RunGroup::Two { .. } => 2,
             RunGroup::Four { .. } => 4,
+            RunGroup::Eight { .. } => 8,
         }
     }
 
@@ -156,9 +192,10 @@ impl RunGroup {
     {
         match self {
             RunGroup::None => unreachable!(),
-            RunGroup::One { cells, .. } => cells[place.stage][run].value(place.field),
-            RunGroup::Two { cells, .. } => cells[place.stage][run].value(place.field),
-            RunGroup::Four { cells, .. } => cells[place.stage][run].value(place.field),
+            RunGroup::One { cells, .. } => cells[place.stage].cell(run).value(place.field),
+            RunGroup::Two { cells, .. } => cells[place.stage].cell(run).value(place.field),
+            RunGroup::Four { cells, .. } => cells[place.stage].cell(run).value(place.field),
+            RunGroup::Eight { cells, .. } => cells[place.stage].cell(run).value(place.field),
         }
     }
 
@@ -189,21 +226,28 @@ impl RunGroup {
                 cells,
                 values,
                 waves,
-            } => run_piece::<1>(
+            } => run_piece::<1, [Cell; 1]>(
                 setting, done, all, first, count, samples, cells, values, waves, output, ledger,
             ),
             RunGroup::Two {
                 cells,
                 values,
                 waves,
-            } => run_piece::<2>(
+            } => run_piece::<2, [Cell; 2]>(
                 setting, done, all, first, count, samples, cells, values, waves, output, ledger,
             ),
             RunGroup::Four {
                 cells,
                 values,
                 waves,
-            } => run_piece::<4>(
+            } => run_piece::<4, LaneCells<4>>(
+                setting, done, all, first, count, samples, cells, values, waves, output, ledger,
+            ),
+            RunGroup::Eight {
+                cells,
+                values,
+                waves,
+            } => run_piece::<8, LaneCells<8>>(
                 setting, done, all, first, count, samples, cells, values, waves, output, ledger,
             ),
         }

@@ -44,7 +44,7 @@ fn scale_frame<const C: usize>(
     rows: &mut [[i64; C]],
     from: usize,
 )
-    requires runs { C ≤ 4 }
+    requires runs { C ≤ 8 }
     requires guard { guard ≤ 16 }
     requires amplitude { All (λ s. unsigned_abs s ≤ 2 ^ 31) samples.now }
     requires inside { (i c : ℕ) → i < sources → c < C → at + i + c * sources < length samples.now }
@@ -70,7 +70,7 @@ fn scale_frames<const C: usize>(
     count: usize,
     rows: &mut [[i64; C]],
 )
-    requires runs { C ≤ 4 }
+    requires runs { C ≤ 8 }
     requires guard { guard ≤ 16 }
     requires amplitude { All (λ s. unsigned_abs s ≤ 2 ^ 31) samples.now }
     requires few { count * all < 2 ^ 60 }
@@ -97,7 +97,7 @@ pub(crate) fn scale_block<const C: usize>(
     count: usize,
     rows: &mut [[i64; C]],
 )
-    requires runs { C ≤ 4 }
+    requires runs { C ≤ 8 }
     requires guard { guard ≤ 16 }
     requires amplitude { All (λ s. unsigned_abs s ≤ 2 ^ 31) samples.now }
     requires few { count * all < 2 ^ 60 }

@@ -24,7 +24,7 @@ pub(crate) struct Setting {
 }
 
 // How many frames are made at once, where each has so many rows of values and waves: at most 2,048
-// rows in all, which are 64 KiB for four runs.
+// rows in all, which are 128 KiB for eight runs.
 fn frames_at_once(rows: usize) -> usize
     requires some { 1 ≤ rows }
     requires few { rows ≤ 256 }

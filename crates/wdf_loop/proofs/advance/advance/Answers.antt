@@ -1,4 +1,4 @@
-use Rattle.std.proofs.Common.{◌≡◌, ◌+◌, ◌-◌, ◌*◌, ◌<◌, ◌≤◌, length, ap, sym, ◌∙◌, subst, arith}
+use Rattle.std.proofs.Common.{◌≡◌, ◌+◌, ◌-◌, ◌*◌, ◌<◌, ◌≤◌, length, map, ap, sym, ◌∙◌, subst, arith}
 use Rattle.wdf_law.specs.Laws.{HasOneStep}
 use Rattle.wdf_law.specs.Network.{Network}
 use Rattle.wdf_law.specs.TreeRules.{HasNumbers}
@@ -29,15 +29,14 @@ block_of-requires g c =
       frames = c.requires.frames;
     } in
     let lists = lists_moved g.row.C c.args.schedule.now.net.k c.k.result (root_of c.args.layout.now.shares.items) (c.len-root.result - 1) c.args.layout.now.shares.items c.deref.result.now c.args.layout.now.chains.items c.deref-2.result.now
-    c.args.layout.now.feeds.items c.deref-3.result.now c.args.absorbing.now c.args.count c.args.cells.now c.args.values.now width root c.deref.ensures.value c.deref-2.ensures.value c.deref-3.ensures.value
+    c.args.layout.now.feeds.items c.deref-3.result.now c.args.absorbing.now c.args.count (map g.R.RunRow.cells c.args.cells.now) c.args.values.now width root c.deref.ensures.value c.deref-2.ensures.value c.deref-3.ensures.value
     (lists_of c.args.schedule.now c.args.plan.now c.args.done c.args.count c.args.layout.now.shares.items c.args.layout.now.marks.items c.args.layout.now.chains.items c.args.layout.now.feeds.items c.args.absorbing.now g.row.C
-    c.args.cells.now c.args.values.now can (are_inputs g.row.C c.args.schedule.now c.args.plan.now c.args.count c.args.layout.now.feeds.items c.args.values.now c.requires.allowed) c.requires.run) in
+    (map g.R.RunRow.cells c.args.cells.now) c.args.values.now can (are_inputs g.row.C c.args.schedule.now c.args.plan.now c.args.count c.args.layout.now.feeds.items c.args.values.now c.requires.allowed) c.requires.run) in
     let sources : length c.args.values.now ≡ c.args.count * length c.deref-3.result.now = c.requires.sources ∙ (λ i. c.args.count * length (sym c.deref-3.ensures.value i)) in
     let waves = c.requires.waves in
-    let runs : g.row.C ≤ 4 = c.requires.runs in
-    let one : g.row.C * 56 < 9223372036854775808 = omega arith in
-    let two : g.row.C * 8 < 9223372036854775808 = omega arith in
-    (one, (two, (c.k.ensures.range.0, (c.k.ensures.range.1, (runs, (stages, (lists.each, (lists.whole, (lists.row, (lists.signs, (sources, (lists.places, (waves, (lists.inside, (are_small g.row.C c.args.plan.now c.args.values.now c.rules-2.ensures c.requires.allowed, lists.run)))))))))))))))
+    let runs : g.row.C ≤ 8 = c.requires.runs in
+    let size : g.row.C * 8 < 9223372036854775808 = omega arith in
+    (size, (c.k.ensures.range.0, (c.k.ensures.range.1, (runs, (stages, (lists.each, (lists.whole, (lists.row, (lists.signs, (sources, (lists.places, (waves, (lists.inside, (are_small g.row.C c.args.plan.now c.args.values.now c.rules-2.ensures c.requires.allowed, lists.run))))))))))))))
 
 pub returns : goal.returns
 returns g c =
@@ -56,7 +55,7 @@ returns g c =
       frames = c.requires.frames;
     } in
     go_on c.args.schedule.now c.args.plan.now c.args.done c.args.count c.args.layout.now.shares.items c.args.layout.now.marks.items c.args.layout.now.chains.items c.args.layout.now.feeds.items c.args.absorbing.now g.row.C
-    c.args.cells.now c.block_of.new.cells c.args.values.now c.block_of.new.waves can (are_inputs g.row.C c.args.schedule.now c.args.plan.now c.args.count c.args.layout.now.feeds.items c.args.values.now c.requires.allowed)
+    (map g.R.RunRow.cells c.args.cells.now) (map g.R.RunRow.cells c.block_of.new.rows) c.args.values.now c.block_of.new.waves can (are_inputs g.row.C c.args.schedule.now c.args.plan.now c.args.count c.args.layout.now.feeds.items c.args.values.now c.requires.allowed)
     (run_moved g.row.C c.args.schedule.now.net.k c.k.result (root_of c.args.layout.now.shares.items) (c.len-root.result - 1) c.args.layout.now.shares.items c.deref.result.now c.args.layout.now.chains.items c.deref-2.result.now
-    c.args.layout.now.feeds.items c.deref-3.result.now c.args.absorbing.now c.args.count c.args.cells.now c.block_of.new.cells c.args.values.now c.block_of.new.waves width root c.deref.ensures.value c.deref-2.ensures.value
+    c.args.layout.now.feeds.items c.deref-3.result.now c.args.absorbing.now c.args.count (map g.R.RunRow.cells c.args.cells.now) (map g.R.RunRow.cells c.block_of.new.rows) c.args.values.now c.block_of.new.waves width root c.deref.ensures.value c.deref-2.ensures.value
     c.deref-3.ensures.value c.block_of.ensures)

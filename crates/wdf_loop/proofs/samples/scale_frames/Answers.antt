@@ -18,7 +18,7 @@ overflow_add-at g c =
 pub scale_frame-requires : goal.scale_frame-requires
 scale_frame-requires g c =
     let h : c.loop-f.f < c.args.count = c.loop-f-test.true in
-    let runs : g.row.C ≤ 4 = c.requires.runs in
+    let runs : g.row.C ≤ 8 = c.requires.runs in
     let one : g.row.C * 8 < 9223372036854775808 = omega arith in
     let each = c.requires.each in
     let rows = ahead c.loop-f.f c.args.count c.args.sources h in

@@ -1,0 +1,3 @@
+mod LaneLemmas
+mod PartLemmas
+mod VectorLemmas
