@@ -51,15 +51,9 @@ shares-size q m n u1 u2 e h k =
     let two : unsigned_abs (pos n *ℤ u2) ≡ n * unsigned_abs u2 = unsigned_abs-mul (pos n) u2 in
     omega (arith, sum-abs (pos m *ℤ u1) (pos n *ℤ u2))
 
--- the sum of three words, and its half
+-- the sum of three words
 pub three-words : (q a b c x : ℕ) → x ≤ a + b + c → q * a ≤ 2 ^ 60 → q * b ≤ 2 ^ 60 → q * c ≤ 2 ^ 60 → q * x ≤ 3 * 2 ^ 60
 three-words q a b c x h ha hb hc = let least : q * x ≤ q * (a + b + c) = mul-le-mul_left q h in omega arith
-
-pub half-of-three : (k x : ℕ) → 1 ≤ k → 2 ^ k * x ≤ 3 * 2 ^ 60 → x ≤ 2 ^ 61
-half-of-three k x some h =
-    let two : 2 ^ 1 ≤ 2 ^ k = pow-le-pow_right (omega arith) some in
-    let least : 2 * x ≤ 2 ^ k * x = mul-le-mul {n₁ = 2} {m₁ = x} {n₂ = 2 ^ k} {m₂ = x} (omega arith) (omega arith) in
-    omega arith
 
 -- a sample of 32 bits with 16 more
 pub shifted_fits : (a g : ℕ) → a ≤ 2 ^ 31 → g ≤ 16 → a * 2 ^ g < 2 ^ 63

@@ -19,9 +19,16 @@ pub record IsPairAt (shares : List Share) (sign : ℤ) (j : ℕ) : Type 0 where
 abbrev pub HasPairs : List Share → ℤ → ℕ → ℕ → Type 0
 HasPairs shares sign start count = (i : ℕ) → i < count → IsPairAt shares sign (start + 2 * i)
 
--- the pairs lie among the stages first..end
+-- in front of them, from the stage `low` on, stands a parallel junction alone, or nothing
+pub record IsLone (shares : List Share) (low start : ℕ) : Type 0 where
+  pub order : low ≤ start
+  pub one : start ≤ low + 1
+  pub parallel : low < start → (share_at shares low).parallel ≡ true
+
+-- they lie among the stages first..end
 pub record ArePairs (shares : List Share) (first end : ℕ) (p : Pairs) : Type 0 where
-  pub order : first ≤ p.start
+  pub order : first ≤ p.low
   pub inside : p.start + 2 * p.count ≤ end
-  pub size : unsigned_abs p.sign ≤ 1
+  pub size : unsigned_abs p.sign ≡ 1
+  pub lone : IsLone shares p.low p.start
   pub pairs : HasPairs shares p.sign p.start p.count

@@ -1,19 +1,69 @@
 // The way up all chains, in several runs at once.
-ghost use Rattle.std.specs.Prelude.{◌≡◌, ◌+◌, ◌-◌, ◌<◌, ◌≤◌, ◌^◌, length, map, unsigned_abs};
+ghost use Rattle.std.specs.Prelude.{◌≡◌, ℕ, ◌+◌, ◌-◌, ◌<◌, ◌≤◌, ◌^◌, length, map, unsigned_abs};
+ghost use Rattle.wdf_loop.specs.Cells.{bottom};
 ghost use Rattle.wdf_loop.specs.Frames.{AllRun, AreSigns, HaveRisen};
 ghost use Rattle.wdf_loop.specs.Layouts.{IsRowOfChains, chain_at};
 ghost use Rattle.wdf_loop.specs.Pairs.{ArePairs};
-ghost use Rattle.wdf_loop.specs.Runs.{AllCanAscend, AreShares, HaveAscended, KeepsOthers};
+ghost use Rattle.wdf_loop.specs.RunCells.{AllCanBegin, wave_in};
+ghost use Rattle.wdf_loop.specs.Runs.{AllCanAscend, AreShares, HaveAscended, KeepsOthers, cell_at, row_at};
 
 use crate::chain::Chain;
 use crate::pair_passes::climb_by;
-use crate::pairs::{Pairs, no_pairs};
+use crate::pairs::Pairs;
+use crate::passes::climb;
 use crate::share::Share;
 use crate::stage_row::StageRow;
 
-// Up a chain with these pairs from the elements at its bottom: `waves` become what its top reflects.
+// What the elements at the bottom of a chain reflect.
+#[inline(always)]
+fn begin<const K: u32, const C: usize, R: StageRow<K, C>>(
+    cells: &[R],
+    chain: Chain,
+    waves: &mut [i64; C],
+)
+    requires few { K ≤ 20 }
+    requires runs { C ≤ 8 }
+    requires bottom { chain.first < length cells.now }
+    requires sign { unsigned_abs chain.sign ≤ 1 }
+    requires can { AllCanBegin (2 ^ K) C (row_at (map R.cells cells.now) chain.first) }
+    ensures { (c : ℕ) → c < C → wave_in waves.new c ≡ bottom chain.sign (cell_at (map R.cells cells.now) chain.first c) }
+{
+    cells[chain.first as usize].bottom(chain.sign, waves);
+}
+
+// Up a chain from the elements at its bottom: `waves` become what its top reflects.
 #[inline(always)]
 fn ascend<const K: u32, const C: usize, R: StageRow<K, C>>(
+    shares: &[Share],
+    cells: &mut [R],
+    chain: Chain,
+    waves: &mut [i64; C],
+)
+    requires few { K ≤ 20 }
+    requires runs { C ≤ 8 }
+    requires order { chain.first ≤ chain.end }
+    requires bottom { chain.first < length cells.old }
+    requires inside { chain.end ≤ length cells.old }
+    requires each { length shares.now ≡ length cells.old }
+    requires shares { AreShares (2 ^ K) shares.now }
+    requires sign { unsigned_abs chain.sign ≤ 1 }
+    requires can { AllCanAscend C (2 ^ K) shares.now chain.first chain.end chain.sign (map R.cells cells.old) }
+    ensures ascend { HaveAscended C (2 ^ K) shares.now chain.first chain.end chain.sign (map R.cells cells.old) (map R.cells cells.new) waves.new }
+    ensures others { KeepsOthers chain.first chain.end (map R.cells cells.old) (map R.cells cells.new) }
+{
+    begin::<K, C, R>(cells, chain, waves);
+    climb::<K, C, R>(
+        shares,
+        cells,
+        chain.first as usize,
+        chain.end as usize,
+        waves,
+    );
+}
+
+// The same where the chain has these pairs.
+#[inline(always)]
+fn ascend_by<const K: u32, const C: usize, R: StageRow<K, C>>(
     shares: &[Share],
     cells: &mut [R],
     chain: Chain,
@@ -33,9 +83,15 @@ fn ascend<const K: u32, const C: usize, R: StageRow<K, C>>(
     ensures ascend { HaveAscended C (2 ^ K) shares.now chain.first chain.end chain.sign (map R.cells cells.old) (map R.cells cells.new) waves.new }
     ensures others { KeepsOthers chain.first chain.end (map R.cells cells.old) (map R.cells cells.new) }
 {
-    let first = chain.first as usize;
-    cells[first].bottom(chain.sign, waves);
-    climb_by::<K, C, R>(shares, cells, first, chain.end as usize, pairs, waves);
+    begin::<K, C, R>(cells, chain, waves);
+    climb_by::<K, C, R>(
+        shares,
+        cells,
+        chain.first as usize,
+        chain.end as usize,
+        pairs,
+        waves,
+    );
 }
 
 /// Up all chains, each but the last, which is `top` and has these pairs, to the part beside the
@@ -65,9 +121,8 @@ pub(crate) fn rise<const K: u32, const C: usize, R: StageRow<K, C>>(
     let last = chains.len() - 1;
     for t in 0..last {
         let chain = chains[t];
-        let none = no_pairs(chain.first as usize);
-        ascend::<K, C, R>(shares, cells, chain, none, waves);
+        ascend::<K, C, R>(shares, cells, chain, waves);
         cells[chain.to as usize].deliver(waves);
     }
-    ascend::<K, C, R>(shares, cells, top, pairs, waves);
+    ascend_by::<K, C, R>(shares, cells, top, pairs, waves);
 }

@@ -9,8 +9,11 @@ use crate::feed::Feed;
 use crate::field::Field;
 use crate::part::Part;
 use crate::share::Share;
-use crate::sums::{brought_back, minus, plus, reflected, signed, weighed};
-use wdf_algebra::{Rounded, parallel_part, root_part, series_first, series_second, times};
+use crate::sums::{
+    brought_back, minus, plus, raised, reflected, series_first_part, series_second_part, signed,
+    weighed,
+};
+use wdf_algebra::{Rounded, root_part, times};
 
 /// The numbers of a junction in one run, those of its last frame; all but `raw` are waves. One part
 /// of the junction hangs beside it, and the other is the tree below.
@@ -49,6 +52,7 @@ impl Cell {
     }
 
     // What the part beside reflects.
+    #[inline(always)]
     fn reflected<const K: u32>(&self, share: Share) -> i64
         requires few { K ≤ 20 }
         requires sign { unsigned_abs share.sign ≤ 1 }
@@ -60,6 +64,7 @@ impl Cell {
     }
 
     /// What the element below reflects, whose kind's sign is this.
+    #[inline(always)]
     pub(crate) fn bottom<const K: u32>(&self, sign: i64) -> i64
         requires few { K ≤ 20 }
         requires sign { unsigned_abs sign ≤ 1 }
@@ -83,6 +88,7 @@ impl Cell {
     }
 
     /// What a part of its stage is sent.
+    #[inline(always)]
     pub(crate) fn sent(&self, part: Part) -> i64
         ensures { result ≡ sent_to part self.now }
     {
@@ -90,6 +96,7 @@ impl Cell {
     }
 
     /// Feeds a source of the stage with its value.
+    #[inline(always)]
     pub(crate) fn give(&mut self, feed: Feed, value: i64)
         requires { unsigned_abs value ≤ 2 ^ 60 }
         ensures { self.new ≡ given feed value self.old }
@@ -103,6 +110,7 @@ impl Cell {
     }
 
     // A series junction on the way up.
+    #[inline(always)]
     fn rise_series<const K: u32>(&mut self, share: Share, wave: i64) -> i64
         requires few { K ≤ 20 }
         requires can { CanRise (2 ^ K) share wave self.old }
@@ -115,6 +123,7 @@ impl Cell {
     }
 
     // A parallel junction on the way up.
+    #[inline(always)]
     fn rise_parallel<const K: u32>(&mut self, share: Share, wave: i64) -> i64
         requires few { K ≤ 20 }
         requires whole { share.m + share.n ≡ 2 ^ K }
@@ -129,6 +138,7 @@ impl Cell {
     }
 
     /// A junction on the way up, the tree below reflecting `wave`: the wave that it reflects.
+    #[inline(always)]
     pub(crate) fn rise<const K: u32>(&mut self, share: Share, wave: i64) -> i64
         requires few { K ≤ 20 }
         requires whole { share.m + share.n ≡ 2 ^ K }
@@ -143,7 +153,9 @@ impl Cell {
         }
     }
 
-    // A series junction on the way down.
+    // A series junction on the way down. What the tree below is sent is made of few steps, since all
+    // else waits for it.
+    #[inline(always)]
     fn fall_series<const K: u32>(&mut self, share: Share, wave: i64) -> i64
         requires some { 1 ≤ K }
         requires few { K ≤ 20 }
@@ -153,13 +165,14 @@ impl Cell {
         ensures wave { result ≡ self.new.onward }
     {
         let whole = minus(wave, plus(self.up, self.below));
-        let part = Rounded::by_power::<K>(weighed::<K>(share.m, whole));
-        self.down = series_first(part, self.up);
-        self.onward = series_second(part, whole, self.below);
+        let first = weighed::<K>(share.m, whole);
+        self.down = series_first_part::<K>(first, self.up);
+        self.onward = series_second_part::<K>(first, whole, self.below);
         self.onward
     }
 
     // A parallel junction on the way down.
+    #[inline(always)]
     fn fall_parallel<const K: u32>(&mut self, wave: i64) -> i64
         requires few { K ≤ 20 }
         requires words { AreWords (2 ^ K) wave self.old }
@@ -168,12 +181,13 @@ impl Cell {
         ensures wave { result ≡ self.new.onward }
     {
         let sum = Rounded::by_power::<K>(self.raw);
-        self.down = parallel_part(sum, wave, self.up);
-        self.onward = parallel_part(sum, wave, self.below);
+        self.down = raised(sum, minus(wave, self.up));
+        self.onward = raised(sum, minus(wave, self.below));
         self.onward
     }
 
     /// A junction on the way down, which is sent `wave`: the wave that the tree below is sent.
+    #[inline(always)]
     pub(crate) fn fall<const K: u32>(&mut self, share: Share, wave: i64) -> i64
         requires some { 1 ≤ K }
         requires few { K ≤ 20 }
@@ -190,6 +204,7 @@ impl Cell {
     }
 
     /// The root, with the tree below reflecting `wave`: the wave that this tree is sent.
+    #[inline(always)]
     pub(crate) fn turn<const K: u32>(&mut self, share: Share, wave: i64) -> i64
         requires few { K ≤ 20 }
         requires whole { share.m + share.n ≡ 2 ^ K }

@@ -2,7 +2,7 @@
 // parts beside reflect, are constants of the code, so that no stage makes a choice.
 ghost use Rattle.std.specs.Prelude.{◌≡◌, ◌+◌, ◌*◌, ◌<◌, ◌≤◌, ◌^◌, length, map, unsigned_abs};
 ghost use Rattle.wdf_loop.specs.Layouts.{share_at};
-ghost use Rattle.wdf_loop.specs.Pairs.{ArePairs, HasPairs, IsOfKind, IsPairAt};
+ghost use Rattle.wdf_loop.specs.Pairs.{ArePairs, HasPairs, IsLone, IsOfKind, IsPairAt};
 ghost use Rattle.wdf_loop.specs.Runs.{AllCanClimb, AllCanDescend, AreShares, HaveClimbed, HaveDescended, KeepsOthers};
 
 use crate::pairs::Pairs;
@@ -99,7 +99,58 @@ fn climb_pairs<const K: u32, const C: usize, R: StageRow<K, C>>(
     *waves = held;
 }
 
-// The pairs on the way up, the sign chosen once for all of them.
+// The parallel junction in front of the stage `start`, where there is one, on the way up.
+#[inline(always)]
+fn climb_lone<const K: u32, const C: usize, R: StageRow<K, C>>(
+    shares: &[Share],
+    cells: &mut [R],
+    low: usize,
+    start: usize,
+    waves: &mut [i64; C],
+)
+    requires few { K ≤ 20 }
+    requires runs { C ≤ 8 }
+    requires inside { start ≤ length cells.old }
+    requires each { length shares.now ≡ length cells.old }
+    requires shares { AreShares (2 ^ K) shares.now }
+    requires lone { IsLone shares.now low start }
+    requires can { AllCanClimb C (2 ^ K) shares.now low start (map R.cells cells.old) waves.old }
+    ensures climb { HaveClimbed C (2 ^ K) shares.now low start start (map R.cells cells.old) waves.old (map R.cells cells.new) waves.new }
+    ensures others { KeepsOthers low start (map R.cells cells.old) (map R.cells cells.new) }
+{
+    if low < start {
+        climb_one::<K, C, R>(shares, cells, low, true, shares[low].sign, waves);
+    }
+}
+
+// The stages that alternate on the way up, with this sign.
+#[inline(always)]
+fn climb_known<const K: u32, const C: usize, R: StageRow<K, C>>(
+    shares: &[Share],
+    cells: &mut [R],
+    low: usize,
+    start: usize,
+    count: usize,
+    sign: i64,
+    waves: &mut [i64; C],
+)
+    requires few { K ≤ 20 }
+    requires runs { C ≤ 8 }
+    requires inside { start + 2 * count ≤ length cells.old }
+    requires each { length shares.now ≡ length cells.old }
+    requires shares { AreShares (2 ^ K) shares.now }
+    requires size { unsigned_abs sign ≤ 1 }
+    requires lone { IsLone shares.now low start }
+    requires pairs { HasPairs shares.now sign start count }
+    requires can { AllCanClimb C (2 ^ K) shares.now low (start + 2 * count) (map R.cells cells.old) waves.old }
+    ensures climb { HaveClimbed C (2 ^ K) shares.now low (start + 2 * count) (start + 2 * count) (map R.cells cells.old) waves.old (map R.cells cells.new) waves.new }
+    ensures others { KeepsOthers low (start + 2 * count) (map R.cells cells.old) (map R.cells cells.new) }
+{
+    climb_lone::<K, C, R>(shares, cells, low, start, waves);
+    climb_pairs::<K, C, R>(shares, cells, start, count, sign, waves);
+}
+
+// They, the sign chosen once for all of them.
 #[inline(always)]
 fn climb_alternating<const K: u32, const C: usize, R: StageRow<K, C>>(
     shares: &[Share],
@@ -112,18 +163,23 @@ fn climb_alternating<const K: u32, const C: usize, R: StageRow<K, C>>(
     requires inside { pairs.start + 2 * pairs.count ≤ length cells.old }
     requires each { length shares.now ≡ length cells.old }
     requires shares { AreShares (2 ^ K) shares.now }
-    requires size { unsigned_abs pairs.sign ≤ 1 }
+    requires size { unsigned_abs pairs.sign ≡ 1 }
+    requires lone { IsLone shares.now pairs.low pairs.start }
     requires pairs { HasPairs shares.now pairs.sign pairs.start pairs.count }
-    requires can { AllCanClimb C (2 ^ K) shares.now pairs.start (pairs.start + 2 * pairs.count) (map R.cells cells.old) waves.old }
-    ensures climb { HaveClimbed C (2 ^ K) shares.now pairs.start (pairs.start + 2 * pairs.count) (pairs.start + 2 * pairs.count) (map R.cells cells.old) waves.old (map R.cells cells.new) waves.new }
-    ensures others { KeepsOthers pairs.start (pairs.start + 2 * pairs.count) (map R.cells cells.old) (map R.cells cells.new) }
+    requires can { AllCanClimb C (2 ^ K) shares.now pairs.low (pairs.start + 2 * pairs.count) (map R.cells cells.old) waves.old }
+    ensures climb { HaveClimbed C (2 ^ K) shares.now pairs.low (pairs.start + 2 * pairs.count) (pairs.start + 2 * pairs.count) (map R.cells cells.old) waves.old (map R.cells cells.new) waves.new }
+    ensures others { KeepsOthers pairs.low (pairs.start + 2 * pairs.count) (map R.cells cells.old) (map R.cells cells.new) }
 {
-    if pairs.sign == 0 {
-        climb_pairs::<K, C, R>(shares, cells, pairs.start, pairs.count, 0, waves);
-    } else if pairs.sign < 0 {
-        climb_pairs::<K, C, R>(shares, cells, pairs.start, pairs.count, -1, waves);
+    let Pairs {
+        low,
+        start,
+        count,
+        ..
+    } = pairs;
+    if pairs.sign < 0 {
+        climb_known::<K, C, R>(shares, cells, low, start, count, -1, waves);
     } else {
-        climb_pairs::<K, C, R>(shares, cells, pairs.start, pairs.count, 1, waves);
+        climb_known::<K, C, R>(shares, cells, low, start, count, 1, waves);
     }
 }
 
@@ -149,7 +205,7 @@ pub(crate) fn climb_by<const K: u32, const C: usize, R: StageRow<K, C>>(
     ensures climb { HaveClimbed C (2 ^ K) shares.now first end end (map R.cells cells.old) waves.old (map R.cells cells.new) waves.new }
     ensures others { KeepsOthers first end (map R.cells cells.old) (map R.cells cells.new) }
 {
-    climb::<K, C, R>(shares, cells, first, pairs.start, waves);
+    climb::<K, C, R>(shares, cells, first, pairs.low, waves);
     climb_alternating::<K, C, R>(shares, cells, pairs, waves);
     climb::<K, C, R>(shares, cells, pairs.start + 2 * pairs.count, end, waves);
 }
@@ -233,7 +289,32 @@ fn descend_pairs<const K: u32, const C: usize, R: StageRow<K, C>>(
     *waves = held;
 }
 
-// The pairs on the way down, the sign chosen once for all of them.
+// The parallel junction in front of the stage `start`, where there is one, on the way down.
+#[inline(always)]
+fn descend_lone<const K: u32, const C: usize, R: StageRow<K, C>>(
+    shares: &[Share],
+    cells: &mut [R],
+    low: usize,
+    start: usize,
+    waves: &mut [i64; C],
+)
+    requires some { 1 ≤ K }
+    requires few { K ≤ 20 }
+    requires runs { C ≤ 8 }
+    requires inside { start ≤ length cells.old }
+    requires each { length shares.now ≡ length cells.old }
+    requires shares { AreShares (2 ^ K) shares.now }
+    requires lone { IsLone shares.now low start }
+    requires can { AllCanDescend C (2 ^ K) shares.now low start (map R.cells cells.old) waves.old }
+    ensures descend { HaveDescended C (2 ^ K) shares.now low start low (map R.cells cells.old) waves.old (map R.cells cells.new) waves.new }
+    ensures others { KeepsOthers low start (map R.cells cells.old) (map R.cells cells.new) }
+{
+    if low < start {
+        descend_one::<K, C, R>(shares, cells, low, true, shares[low].sign, waves);
+    }
+}
+
+// The stages that alternate on the way down, where the sign makes no difference.
 #[inline(always)]
 fn descend_alternating<const K: u32, const C: usize, R: StageRow<K, C>>(
     shares: &[Share],
@@ -247,19 +328,21 @@ fn descend_alternating<const K: u32, const C: usize, R: StageRow<K, C>>(
     requires inside { pairs.start + 2 * pairs.count ≤ length cells.old }
     requires each { length shares.now ≡ length cells.old }
     requires shares { AreShares (2 ^ K) shares.now }
-    requires size { unsigned_abs pairs.sign ≤ 1 }
+    requires size { unsigned_abs pairs.sign ≡ 1 }
+    requires lone { IsLone shares.now pairs.low pairs.start }
     requires pairs { HasPairs shares.now pairs.sign pairs.start pairs.count }
-    requires can { AllCanDescend C (2 ^ K) shares.now pairs.start (pairs.start + 2 * pairs.count) (map R.cells cells.old) waves.old }
-    ensures descend { HaveDescended C (2 ^ K) shares.now pairs.start (pairs.start + 2 * pairs.count) pairs.start (map R.cells cells.old) waves.old (map R.cells cells.new) waves.new }
-    ensures others { KeepsOthers pairs.start (pairs.start + 2 * pairs.count) (map R.cells cells.old) (map R.cells cells.new) }
+    requires can { AllCanDescend C (2 ^ K) shares.now pairs.low (pairs.start + 2 * pairs.count) (map R.cells cells.old) waves.old }
+    ensures descend { HaveDescended C (2 ^ K) shares.now pairs.low (pairs.start + 2 * pairs.count) pairs.low (map R.cells cells.old) waves.old (map R.cells cells.new) waves.new }
+    ensures others { KeepsOthers pairs.low (pairs.start + 2 * pairs.count) (map R.cells cells.old) (map R.cells cells.new) }
 {
-    if pairs.sign == 0 {
-        descend_pairs::<K, C, R>(shares, cells, pairs.start, pairs.count, 0, waves);
-    } else if pairs.sign < 0 {
-        descend_pairs::<K, C, R>(shares, cells, pairs.start, pairs.count, -1, waves);
-    } else {
-        descend_pairs::<K, C, R>(shares, cells, pairs.start, pairs.count, 1, waves);
-    }
+    let Pairs {
+        low,
+        start,
+        count,
+        sign,
+    } = pairs;
+    descend_pairs::<K, C, R>(shares, cells, start, count, sign, waves);
+    descend_lone::<K, C, R>(shares, cells, low, start, waves);
 }
 
 /// They on the way down: `waves`, which the top is sent, become what the elements at the bottom
@@ -287,5 +370,5 @@ pub(crate) fn descend_by<const K: u32, const C: usize, R: StageRow<K, C>>(
 {
     descend::<K, C, R>(shares, cells, pairs.start + 2 * pairs.count, end, waves);
     descend_alternating::<K, C, R>(shares, cells, pairs, waves);
-    descend::<K, C, R>(shares, cells, first, pairs.start, waves);
+    descend::<K, C, R>(shares, cells, first, pairs.low, waves);
 }

@@ -7,32 +7,33 @@ ghost use Rattle.wdf_loop.specs.Pairs.{ArePairs, HasPairs, IsOfKind};
 use crate::share::Share;
 
 /// Stages of a chain that alternate: from the stage `start` on `count` times a series junction with
-/// this sign and behind it a parallel one with the opposite sign.
+/// this sign, which is 1 or -1, and behind it a parallel one with the opposite sign. Where `low` is
+/// below `start`, a parallel one with any sign stands alone in front of them.
 #[derive(Clone, Copy, Debug, PartialEq, Eq)]
 pub(crate) struct Pairs {
+    pub(crate) low: usize,
     pub(crate) start: usize,
     pub(crate) count: usize,
     pub(crate) sign: i64,
 }
 
-/// No pairs, in a chain that begins at the stage `first`.
-pub(crate) fn no_pairs(first: usize) -> Pairs
+// No pairs, in a chain that begins at the stage `first`.
+fn no_pairs(first: usize) -> Pairs
     ensures { (shares : List Share) (end : ℕ) → first ≤ end → ArePairs shares first end result }
 {
     Pairs {
+        low: first,
         start: first,
         count: 0,
-        sign: 0,
+        sign: 1,
     }
 }
 
-// Whether a stage and the next are such a pair.
-fn is_pair(series: Share, parallel: Share, sign: i64) -> bool
-    requires { unsigned_abs sign ≤ 1 }
-    ensures first { IsTrue result → IsOfKind false sign series }
-    ensures second { IsTrue result → IsOfKind true (neg_ℤ sign) parallel }
+// Whether a stage is of this kind.
+fn is_of_kind(share: Share, parallel: bool, sign: i64) -> bool
+    ensures { IsTrue result → IsOfKind parallel sign share }
 {
-    !series.parallel && series.sign == sign && parallel.parallel && parallel.sign == -sign
+    share.parallel == parallel && share.sign == sign
 }
 
 // How many pairs there are from the stage `start` on, before the stage `end`.
@@ -45,7 +46,7 @@ fn count_from(shares: &[Share], start: usize, end: usize, sign: i64) -> usize
 {
     for i in 0..(end - start) / 2 {
         let j = start + 2 * i;
-        if !is_pair(shares[j], shares[j + 1], sign) {
+        if !is_of_kind(shares[j], false, sign) || !is_of_kind(shares[j + 1], true, -sign) {
             return i;
         }
     }
@@ -68,6 +69,14 @@ pub(crate) fn pairs_of(shares: &[Share], first: usize, end: usize) -> Pairs
         first
     };
     let sign = shares[start].sign;
+    if sign == 0 {
+        return no_pairs(first);
+    }
     let count = count_from(shares, start, end, sign);
-    Pairs { start, count, sign }
+    Pairs {
+        low: first,
+        start,
+        count,
+        sign,
+    }
 }

@@ -62,6 +62,7 @@ pub(crate) fn fall<const K: u32, const C: usize>(
 }
 
 /// What the elements below the row's stage reflect, whose kind's sign is this.
+#[inline(always)]
 pub(crate) fn bottom<const K: u32, const C: usize>(row: &[Cell; C], sign: i64, waves: &mut [i64; C])
     requires few { K ≤ 20 }
     requires sign { unsigned_abs sign ≤ 1 }
@@ -74,6 +75,7 @@ pub(crate) fn bottom<const K: u32, const C: usize>(row: &[Cell; C], sign: i64, w
 }
 
 /// Feeds the parts beside the row's stage with `waves`.
+#[inline(always)]
 pub(crate) fn deliver<const C: usize>(row: &mut [Cell; C], waves: &[i64; C])
     ensures { (c : ℕ) → c < C → cell_in row.new c ≡ fed_with (wave_in waves.now c) (cell_in row.old c) }
 {
@@ -83,6 +85,7 @@ pub(crate) fn deliver<const C: usize>(row: &mut [Cell; C], waves: &[i64; C])
 }
 
 /// What these parts are sent.
+#[inline(always)]
 pub(crate) fn collect<const C: usize>(row: &[Cell; C], waves: &mut [i64; C])
     ensures { (c : ℕ) → c < C → wave_in waves.new c ≡ (cell_in row.now c).down }
 {
@@ -92,6 +95,7 @@ pub(crate) fn collect<const C: usize>(row: &[Cell; C], waves: &mut [i64; C])
 }
 
 /// Feeds a source of the row's stage with its values.
+#[inline(always)]
 pub(crate) fn give<const C: usize>(row: &mut [Cell; C], feed: Feed, values: &[i64; C])
     requires { (c : ℕ) → c < C → unsigned_abs (wave_in values.now c) ≤ 2 ^ 60 }
     ensures { (c : ℕ) → c < C → cell_in row.new c ≡ given feed (wave_in values.now c) (cell_in row.old c) }
@@ -102,6 +106,7 @@ pub(crate) fn give<const C: usize>(row: &mut [Cell; C], feed: Feed, values: &[i6
 }
 
 /// What a part of the row's stage is sent.
+#[inline(always)]
 pub(crate) fn sent<const C: usize>(row: &[Cell; C], part: Part, waves: &mut [i64; C])
     ensures { (c : ℕ) → c < C → wave_in waves.new c ≡ sent_to part (cell_in row.now c) }
 {

@@ -36,7 +36,7 @@ ascend-requires g c =
     rise_can g.row.C (2 ^ g.row.K) c.args.root c.args.shares.now c.args.chains.now c.loop-t.t (map g.R.RunRow.cells c.args.cells.now) (map g.R.RunRow.cells c.loop-t.cells) c.requires.chains small c.requires.run c.loop-t.invariant.risen in
     let runs : g.row.C ≤ 8 = c.requires.runs in
     let size : g.row.C * 8 < 9223372036854775808 = omega arith in
-    (size, (c.requires.few, (c.requires.runs, (order, (bottom, (inside, (each, (c.requires.shares, (c.requires.signs c.loop-t.t small, (c.no_pairs-none.ensures c.args.shares.now (end_of c.args.chains.now c.loop-t.t) order, can))))))))))
+    (size, (c.requires.few, (c.requires.runs, (order, (bottom, (inside, (each, (c.requires.shares, (c.requires.signs c.loop-t.t small, can)))))))))
 
 pub loop-t-preserved : goal.loop-t-preserved
 loop-t-preserved g c =
@@ -60,8 +60,8 @@ loop-t-preserved g c =
           c.requires.chains more long-after c.loop-t.invariant.risen c.ascend.ensures.ascend c.ascend.ensures.others given);
     }
 
-pub ascend-requires-2 : goal.ascend-requires-2
-ascend-requires-2 g c =
+pub ascend_by-requires : goal.ascend_by-requires
+ascend_by-requires g c =
     let some = c.requires.chains.some in
     let at : c.loop-t.t ≡ length c.args.chains.now - 1 = let most = c.loop-t.auto.t-end in let least = c.loop-t-test.false in omega arith in
     let small : length c.args.chains.now - 1 < length c.args.chains.now = omega arith in
@@ -116,7 +116,7 @@ returns g c =
     let at : c.loop-t.t ≡ length c.args.chains.now - 1 = let most = c.loop-t.auto.t-end in let least = c.loop-t-test.false in omega arith in
     let last : length c.args.chains.now - 1 + 1 ≡ length c.args.chains.now = omega arith in
     let risen = subst (λ (t : ℕ). HaveRisenTo g.row.C (2 ^ g.row.K) c.args.root c.args.shares.now c.args.chains.now t (map g.R.RunRow.cells c.args.cells.now) (map g.R.RunRow.cells c.loop-t.cells)) at c.loop-t.invariant.risen in
-    rise_last g.row.C (2 ^ g.row.K) c.args.root c.args.shares.now c.args.chains.now (length c.args.chains.now - 1) (map g.R.RunRow.cells c.args.cells.now) (map g.R.RunRow.cells c.loop-t.cells) (map g.R.RunRow.cells c.ascend-2.new.cells) c.ascend-2.new.waves
+    rise_last g.row.C (2 ^ g.row.K) c.args.root c.args.shares.now c.args.chains.now (length c.args.chains.now - 1) (map g.R.RunRow.cells c.args.cells.now) (map g.R.RunRow.cells c.loop-t.cells) (map g.R.RunRow.cells c.ascend_by.new.cells) c.ascend_by.new.waves
     c.requires.chains last risen
-    (subst (λ (t : Chain). HaveAscended g.row.C (2 ^ g.row.K) c.args.shares.now t.first t.end t.sign (map g.R.RunRow.cells c.loop-t.cells) (map g.R.RunRow.cells c.ascend-2.new.cells) c.ascend-2.new.waves) (sym c.requires.top) c.ascend-2.ensures.ascend)
-    (subst (λ (t : Chain). KeepsOthers t.first t.end (map g.R.RunRow.cells c.loop-t.cells) (map g.R.RunRow.cells c.ascend-2.new.cells)) (sym c.requires.top) c.ascend-2.ensures.others)
+    (subst (λ (t : Chain). HaveAscended g.row.C (2 ^ g.row.K) c.args.shares.now t.first t.end t.sign (map g.R.RunRow.cells c.loop-t.cells) (map g.R.RunRow.cells c.ascend_by.new.cells) c.ascend_by.new.waves) (sym c.requires.top) c.ascend_by.ensures.ascend)
+    (subst (λ (t : Chain). KeepsOthers t.first t.end (map g.R.RunRow.cells c.loop-t.cells) (map g.R.RunRow.cells c.ascend_by.new.cells)) (sym c.requires.top) c.ascend_by.ensures.others)

@@ -1,10 +1,8 @@
-use Rattle.std.proofs.Common.{◌≡◌, ℕ, ◌+◌, ◌-◌, ◌*◌, ◌<◌, ◌≤◌, ◌^◌, List, length, map, refl, sym, ◌∙◌, subst, arith, w64, to_z, of_z}
-use Rattle.std.specs.Prelude.{ℤ, pos, ◌-ℤ◌, neg_ℤ, true, false, unsigned_abs}
-use Rattle.wdf_loop.specs.declared.cell.Cell.{Cell}
-use Rattle.wdf_loop.specs.Layouts.{share_at}
+use Rattle.std.proofs.Common.{◌≡◌, ℕ, ◌+◌, ◌*◌, ◌<◌, ◌≤◌, ◌^◌, length, map, refl, sym, ◌∙◌, subst, arith, w64, to_z, of_z}
+use Rattle.std.specs.Prelude.{ℤ, unsigned_abs}
 use Rattle.wdf_loop.specs.Pairs.{IsPairAt}
-use Rattle.wdf_loop.specs.Runs.{AllCanClimb, HaveClimbed, KeepsOthers, row_at}
-use Rattle.wdf_loop.proofs.PairLemmas.{climb_joined, climb_none, climb_part, keeps_none, others_joined, sign-kept, sign-turned}
+use Rattle.wdf_loop.specs.Runs.{HaveClimbed, KeepsOthers}
+use Rattle.wdf_loop.proofs.PairLemmas.{climb_joined, climb_none, climb_part, keeps_none, others_joined, sign-kept}
 use Rattle.wdf_loop.proofs.pair_passes.climb_pairs.Goals as goal
 
 pub loop-i-init : goal.loop-i-init

@@ -1,9 +1,8 @@
-use Rattle.std.proofs.Common.{◌≡◌, ℕ, ◌+◌, ◌-◌, ◌*◌, ◌<◌, ◌≤◌, ◌^◌, List, length, map, refl, sym, ◌∙◌, subst, arith, w64, to_z, of_z}
-use Rattle.std.specs.Prelude.{ℤ, pos, ◌-ℤ◌, neg_ℤ, true, false, unsigned_abs}
-use Rattle.wdf_loop.specs.declared.cell.Cell.{Cell}
+use Rattle.std.proofs.Common.{◌≡◌, ℕ, ◌+◌, ◌*◌, ◌<◌, ◌≤◌, ◌^◌, length, map, sym, subst, arith, w64, to_z, of_z}
+use Rattle.std.specs.Prelude.{ℤ, pos, ◌-ℤ◌, true, false}
 use Rattle.wdf_loop.specs.Layouts.{share_at}
-use Rattle.wdf_loop.specs.Pairs.{HasPairs, IsOfKind}
-use Rattle.wdf_loop.specs.Runs.{AllCanDescend, HaveDescended, KeepsOthers, row_at}
+use Rattle.wdf_loop.specs.Pairs.{IsOfKind}
+use Rattle.wdf_loop.specs.Runs.{AllCanDescend, HaveDescended, KeepsOthers}
 use Rattle.wdf_loop.proofs.PairLemmas.{descend_joined, descend_none, descend_part, keeps_none, others_joined, sign-kept, sign-turned}
 use Rattle.wdf_loop.proofs.pair_passes.descend_pair.Goals as goal
 
