@@ -1,5 +1,5 @@
 // The samples of a block: their values, the first over amp, and the output samples of load waves.
-ghost use Rattle.std.specs.Prelude.{◌≡◌, ◌*◌, ◌-◌, ◌/◌, ◌<◌, ◌≤◌, length, take, map, filter, pos, slice_index_or, unsigned_abs, All};
+ghost use Rattle.std.specs.Prelude.{◌≡◌, ◌*◌, ◌-◌, ◌/◌, ◌<◌, ◌≤◌, length, take, map, filter, pos, slice_index_or, unsigned_abs, true, All};
 ghost use Rattle.wdf_algebra.specs.Samples.{IsSampleValue, IsSampleWidth};
 ghost use Rattle.wdf_law.specs.OutputRule.{output_of};
 ghost use Rattle.wdf_loop.specs.Limiting.{is_limited};
@@ -38,8 +38,28 @@ pub(crate) fn decode(bits: u8, bytes: &[u8], samples: &mut [i64])
     }
 }
 
-/// How many samples stand in front of the first whose magnitude is over `amp`: all where none is.
-pub(crate) fn count_small(amp: u32, samples: &[i64]) -> usize
+// Whether a sample's magnitude is at most `amp`.
+#[inline(always)]
+fn is_small(amp: u32, sample: i64) -> bool
+    ensures { result ≡ true → unsigned_abs sample ≤ amp }
+{
+    sample.unsigned_abs() <= u64::from(amp)
+}
+
+// Whether no sample's magnitude is over `amp`. The loop has no way out, so that several samples are
+// compared at once.
+fn are_small(amp: u32, samples: &[i64]) -> bool
+    ensures { result ≡ true → All (λ z. unsigned_abs z ≤ amp) samples.now }
+{
+    let mut all = true;
+    for at in 0..samples.len() {
+        all &= is_small(amp, samples[at]);
+    }
+    all
+}
+
+// How many samples stand in front of the first whose magnitude is over `amp`: all where none is.
+fn first_over(amp: u32, samples: &[i64]) -> usize
     ensures most { result ≤ length samples.now }
     ensures small { All (λ z. unsigned_abs z ≤ amp) (take result samples.now) }
     ensures over { result < length samples.now → amp < unsigned_abs (slice_index_or samples.now result (pos 0)) }
@@ -50,6 +70,18 @@ pub(crate) fn count_small(amp: u32, samples: &[i64]) -> usize
         }
     }
     samples.len()
+}
+
+/// How many samples stand in front of the first whose magnitude is over `amp`: all where none is.
+pub(crate) fn count_small(amp: u32, samples: &[i64]) -> usize
+    ensures most { result ≤ length samples.now }
+    ensures small { All (λ z. unsigned_abs z ≤ amp) (take result samples.now) }
+    ensures over { result < length samples.now → amp < unsigned_abs (slice_index_or samples.now result (pos 0)) }
+{
+    if are_small(amp, samples) {
+        return samples.len();
+    }
+    first_over(amp, samples)
 }
 
 // Writes one sample.

@@ -57,6 +57,29 @@ fn limit_four(waves: &[i64], down: u8, bits: u8, out: &mut [i64]) -> u64
     u64::from(count_changes(values, limited))
 }
 
+// The output samples of the waves in whole groups of four, and how many were limited. The width is a
+// constant of the code, so that the loop has no choice in it.
+fn limit_groups_at<const BITS: u8>(waves: &[i64], down: u8, out: &mut [i64]) -> u64
+    requires few { down ≤ 33 }
+    requires width { IsSampleWidth BITS }
+    requires room { length out.old ≡ length waves.now }
+    ensures room { length out.new ≡ length out.old }
+    ensures values { take (length waves.now / 4 * 4) out.new ≡ map (output_of down BITS) (take (length waves.now / 4 * 4) waves.now) }
+    ensures limited { result ≡ length (filter (is_limited down BITS) (take (length waves.now / 4 * 4) waves.now)) }
+    ensures most { result ≤ length waves.now / 4 * 4 }
+{
+    let mut limited = 0;
+    for k in 0..waves.len() / 4 {
+        limited += limit_four(
+            &waves[k * 4..k * 4 + 4],
+            down,
+            BITS,
+            &mut out[k * 4..k * 4 + 4],
+        );
+    }
+    limited
+}
+
 // The output samples of the waves in whole groups of four, and how many were limited.
 fn limit_groups(waves: &[i64], down: u8, bits: u8, out: &mut [i64]) -> u64
     requires few { down ≤ 33 }
@@ -67,16 +90,12 @@ fn limit_groups(waves: &[i64], down: u8, bits: u8, out: &mut [i64]) -> u64
     ensures limited { result ≡ length (filter (is_limited down bits) (take (length waves.now / 4 * 4) waves.now)) }
     ensures most { result ≤ length waves.now / 4 * 4 }
 {
-    let mut limited = 0;
-    for k in 0..waves.len() / 4 {
-        limited += limit_four(
-            &waves[k * 4..k * 4 + 4],
-            down,
-            bits,
-            &mut out[k * 4..k * 4 + 4],
-        );
+    match bits {
+        8 => limit_groups_at::<8>(waves, down, out),
+        16 => limit_groups_at::<16>(waves, down, out),
+        24 => limit_groups_at::<24>(waves, down, out),
+        _ => limit_groups_at::<32>(waves, down, out),
     }
-    limited
 }
 
 // The output samples from number `from` on, where those before are there, and how many of all were

@@ -2,7 +2,7 @@
 use Rattle.std.proofs.Common.{◌≤◌, get_or, rules, pos}
 use Rattle.std.specs.Prelude.{unsigned_abs}
 use Rattle.std.proofs.lemmas.List.Elements.{All-more}
-use Rattle.wdf_frames.proofs.samples.count_small.Goals as goal
+use Rattle.wdf_frames.proofs.samples.first_over.Goals as goal
 
 pub loop-at-preserved : goal.loop-at-preserved
 loop-at-preserved c =

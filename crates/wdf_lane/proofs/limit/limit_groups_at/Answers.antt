@@ -3,11 +3,11 @@ use Rattle.std.proofs.Common.{◌≡◌, ◌+◌, ◌*◌, ◌≤◌, length, ar
 use Rattle.wdf_law.specs.OutputRule.{output_of}
 use Rattle.wdf_loop.specs.Limiting.{is_limited}
 use Rattle.wdf_lane.proofs.LimitLemmas.{four_made, four_counted}
-use Rattle.wdf_lane.proofs.limit.limit_groups.Goals as goal
+use Rattle.wdf_lane.proofs.limit.limit_groups_at.Goals as goal
 
 pub loop-k-preserved : goal.loop-k-preserved
-loop-k-preserved c =
-    let bits = c.args.bits in
+loop-k-preserved g c =
+    let bits = g.row.BITS in
     let down = c.args.down in
     let waves = c.args.waves.now in
     let k = c.loop-k.k in
