@@ -129,8 +129,9 @@ impl<const N: usize> LaneCells<N> {
     {
         let whole = differences(waves, sums(self.up, self.below));
         self.down = series_parts::<K, N>(share.m, whole, self.up);
-        self.onward = series_parts::<K, N>(share.n, whole, self.below);
-        self.onward
+        let onward = series_parts::<K, N>(share.n, whole, self.below);
+        self.onward = onward;
+        onward
     }
 
     // Parallel junctions on the way down.
@@ -142,8 +143,9 @@ impl<const N: usize> LaneCells<N> {
         ensures { InLanes (Falls (2 ^ K) share) waves.entry self.old self.new result }
     {
         self.down = parallel_parts::<K, N>(self.raw, waves, self.up);
-        self.onward = parallel_parts::<K, N>(self.raw, waves, self.below);
-        self.onward
+        let onward = parallel_parts::<K, N>(self.raw, waves, self.below);
+        self.onward = onward;
+        onward
     }
 
     /// The junctions on the way down, which are sent `waves`: what the trees below are sent.

@@ -38,8 +38,8 @@ series_parts-self-requires g c =
       ),
     )
 
-pub series_parts-self-requires-2 : goal.series_parts-self-requires-2
-series_parts-self-requires-2 g c =
+pub series_parts-onward-requires : goal.series_parts-onward-requires
+series_parts-onward-requires g c =
     let room : g.row.N * 8 < 2 ^ 63 = search rules in
     let part : c.args.share.n ≤ 2 ^ g.row.K = let whole = c.requires.whole in omega arith in (
       room,

@@ -1,7 +1,7 @@
 use Rattle.std.proofs.Common.{◌≡◌, ℕ, ◌<◌, ◌≤◌, ◌^◌, length, map}
 use mathlib.Core.Logic.{◌⊎◌}
 use Rattle.wdf_loop.specs.Runs.{HaveClimbed, row_at}
-use Rattle.wdf_loop.proofs.passes.climb.Given as goal
+use Rattle.wdf_loop.proofs.passes.climb_stages.Given as goal
 
 abbrev pub invariant-loop-j : goal.invariant-loop-j
 invariant-loop-j g l = record {

@@ -1,7 +1,7 @@
 use Rattle.std.proofs.Common.{◌≡◌, ℕ, ◌-◌, ◌<◌, ◌≤◌, ◌^◌, length, map}
 use mathlib.Core.Logic.{◌⊎◌}
 use Rattle.wdf_loop.specs.Runs.{HaveDescended, row_at}
-use Rattle.wdf_loop.proofs.passes.descend.Given as goal
+use Rattle.wdf_loop.proofs.passes.descend_stages.Given as goal
 
 abbrev pub invariant-loop-done : goal.invariant-loop-done
 invariant-loop-done g l = record {
