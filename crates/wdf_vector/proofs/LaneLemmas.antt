@@ -1,9 +1,9 @@
 -- What the operations on lanes come to in each lane.
-use Rattle.std.proofs.Common.{◌≡◌, ℕ, zero, suc, ◌+◌, ◌-◌, ◌*◌, ◌%◌, ◌^◌, ◌<◌, ◌≤◌, cond, refl, ap, ◌∙◌, arith, List, [], ◌∷◌, map, length, replicate, SFits, to_z, of_z, w64, get_or, unsigned_abs}
+use Rattle.std.proofs.Common.{◌≡◌, ℕ, zero, suc, ◌+◌, ◌-◌, ◌*◌, ◌%◌, ◌^◌, ◌<◌, ◌≤◌, refl, ap, ◌∙◌, arith, List, [], ◌∷◌, map, length, replicate, SFits, to_z, of_z, w64, get_or, unsigned_abs}
 use Rattle.std.proofs.lemmas.Int.{ints, fits_signed_mul, int_wrap_fits, wrapping_add_is, wrapping_sub_is, wrapping_mul_is}
 use Rattle.std.proofs.lemmas.Simd.{get_or-replicate, get_or-zip2, length-replicate, length-zip2}
 use lib.IntN.{ℤ, pos, negsuc, ◌+ℤ◌, ◌-ℤ◌, ◌*ℤ◌}
-use lib.Lanes.{sel_l, top, zip2}
+use lib.Lanes.{zip2}
 use Rattle.wdf_vector.specs.Lanes.{lane}
 
 -- a vector of n lanes, each by a formula
@@ -34,7 +34,7 @@ splat n a = record {
   each = λ c less. get_or-replicate n c a 0 less;
 }
 
--- two vectors by an operation,
+-- two vectors by an operation
 pub both : (n : ℕ) (o : ℕ → ℕ → ℕ) {xs ys : List ℕ} {f g : ℕ → ℕ} → Spread n xs f → Spread n ys g → Spread n (zip2 o xs ys) (λ c. o (f c) (g c))
 both n o {xs} {ys} {f} {g} s t =
     let m = s.long in
@@ -43,26 +43,6 @@ both n o {xs} {ys} {f} {g} s t =
       long = length-zip2 o xs ys (omega arith) ∙ m;
       each = λ c less. get_or-zip2 o xs ys c 0 0 0 (omega arith) (omega arith) ∙ (λ i. o (s.each c less i) (t.each c less i));
     }
-
--- and all ones where a lane's top bit is set
-chosen-lane : (a b n : ℕ) (xs : List ℕ) (c : ℕ) → length xs ≡ n → c < n
-    → get_or (sel_l (map (top 63) xs) (replicate n a) (replicate n b)) c 0 ≡ cond (top 63 (get_or xs c 0)) a b
-chosen-lane a b zero xs c h less = absurd (omega arith)
-chosen-lane a b (suc n) [] c h less = absurd (omega arith)
-chosen-lane a b (suc n) (x ∷ xs) zero h less = refl
-chosen-lane a b (suc n) (x ∷ xs) (suc c) h less = chosen-lane a b n xs c (omega arith) (omega arith)
-
-length-chosen : (a b n : ℕ) (xs : List ℕ) → length xs ≡ n → length (sel_l (map (top 63) xs) (replicate n a) (replicate n b)) ≡ n
-length-chosen a b zero [] h = refl
-length-chosen a b zero (x ∷ xs) h = absurd (omega arith)
-length-chosen a b (suc n) [] h = absurd (omega arith)
-length-chosen a b (suc n) (x ∷ xs) h = ap suc (length-chosen a b n xs (omega arith))
-
-pub chosen : (n a b : ℕ) {xs : List ℕ} {f : ℕ → ℕ} → Spread n xs f → Spread n (sel_l (map (top 63) xs) (replicate n a) (replicate n b)) (λ c. cond (top 63 (f c)) a b)
-chosen n a b {xs} s = record {
-  long = length-chosen a b n xs s.long;
-  each = λ c less. chosen-lane a b n xs c s.long less ∙ (λ i. cond (top 63 (s.each c less i)) a b);
-}
 
 -- its numbers
 numbers-lane : (xs : List ℕ) (c : ℕ) → c < length xs → lane (map (to_z w64) xs) c ≡ to_z w64 (get_or xs c 0)

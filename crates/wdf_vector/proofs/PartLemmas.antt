@@ -1,14 +1,14 @@
 -- The quotient in a lane: its floor, and one more where the number is negative and not whole.
-use Rattle.std.proofs.Common.{◌≡◌, ℕ, suc, ◌+◌, ◌-◌, ◌*◌, ◌/◌, ◌%◌, ◌^◌, ◌<◌, ◌≤◌, Bool, true, false, cond, not, refl, sym, ap, ◌∙◌, arith, [], ◌∷◌, SFits, to_z, of_z, w64, eqb, eqb-true, eq-eqb, unsigned_abs}
+use Rattle.std.proofs.Common.{◌≡◌, ℕ, suc, ◌+◌, ◌-◌, ◌*◌, ◌/◌, ◌%◌, ◌^◌, ◌<◌, ◌≤◌, Bool, true, false, min, refl, sym, ap, ◌∙◌, arith, [], ◌∷◌, SFits, to_z, of_z, w64, pow_mono, unsigned_abs}
 use Rattle.std.proofs.Math.Nat.{add-mul-mod_self_left, div-add-mod, div-eq_of_lt, mod-eq_of_lt, mod-lt, mul-add}
-use Rattle.std.proofs.lemmas.Nat.{and_mask, pow-add, pow_pos}
+use Rattle.std.proofs.lemmas.Nat.{and_le_l, and_mask, pow-add, pow_pos}
+use Rattle.std.proofs.lemmas.Nat.Bits.{bit_at_and}
+use Rattle.std.specs.Int.{bit_at}
 use Rattle.std.proofs.lemmas.Int.{ints, of_z-to_z, to_z-of_z}
 use Rattle.std.proofs.lemmas.Bool.{cases_lt}
 use Rattle.std.specs.Int.Bits.{bit_and}
-use mathlib.Core.Bool.{true≢false}
 use mathlib.Core.Logic.{◌⊎◌, inl, inr}
 use lib.IntN.{ℤ, pos, negsuc, ◌+ℤ◌, ◌-ℤ◌, ◌*ℤ◌}
-use lib.Lanes.{top}
 use lib.Signed.{shr_z, lt_z}
 use borrow.Author.Differences.{lt-true, product_is, same_in, sum_is_lem}
 use Rattle.wdf_algebra.specs.Roundings.{Rounds}
@@ -82,9 +82,9 @@ low-bits k (negsuc a) h f =
 
 -- ---- a lane
 
--- all ones where the low bits are not all 0
-abbrev pub rest_lane : ℕ → ℤ → ℕ
-rest_lane m z = cond (top 63 (cond (not (eqb (bit_and (of_z w64 z) m) 0)) (2 ^ 64 - 1) 0)) (2 ^ 64 - 1) 0
+-- the low bits, subtracted from 0
+abbrev pub owed_lane : ℕ → ℤ → ℕ
+owed_lane m z = (0 + (2 ^ 64 - bit_and (of_z w64 z) m)) % 2 ^ 64
 
 abbrev pub floor_lane : ℕ → ℤ → ℤ → ℕ
 floor_lane n w z = (of_z w64 w + of_z w64 (shr_z (to_z w64 (of_z w64 z)) (2 ^ n))) % 2 ^ 64
@@ -97,7 +97,7 @@ abbrev pub without_late : ℕ → ℕ → ℤ
 without_late y r = to_z w64 ((y + (2 ^ 64 - late_lane y r)) % 2 ^ 64)
 
 abbrev pub part_lane : ℕ → ℕ → ℤ → ℤ → ℤ
-part_lane m n w z = without_late (floor_lane n w z) (rest_lane m z)
+part_lane m n w z = without_late (floor_lane n w z) (owed_lane m z)
 
 -- where nothing is over the floor is the quotient,
 whole : (y : ℤ) → unsigned_abs y < 2 ^ 63 → without_late (of_z w64 y) 0 ≡ y
@@ -107,28 +107,52 @@ whole y h =
     ∙ (difference-bits y (pos 0) (omega arith) ∙ omega (arith, ints))
 
 -- and else one more where it is negative
-all-ones : (y : ℤ) → unsigned_abs y < 2 ^ 63 → late_lane (of_z w64 y) (2 ^ 64 - 1) ≡ of_z w64 (shr_z y (2 ^ 63))
-all-ones y h =
-    let f = number-fits y h in
-    ap (λ (b : ℕ). of_z w64 (shr_z (to_z w64 b) (2 ^ 63))) (and_mask (of_z w64 y) 64 ∙ mod-eq_of_lt (bits-less y f))
-    ∙ ap (λ (a : ℤ). of_z w64 (shr_z a (2 ^ 63))) (to_z-of_z w64 y f)
+late-above : (a r : ℕ) → a < 2 ^ 63 → late_lane a r ≡ 0
+late-above a r h =
+    let least : bit_and a r ≤ a = and_le_l a r in
+    let value : to_z w64 (bit_and a r) ≡ pos (bit_and a r) = to_z-of_z w64 (pos (bit_and a r)) (record { sfits = omega arith }) in
+    let none : bit_and a r / 2 ^ 63 ≡ 0 = div-eq_of_lt (omega arith) in
+    ap (λ (z : ℤ). of_z w64 (shr_z z (2 ^ 63))) value ∙ none
+
+late-below : (a r : ℕ) → 2 ^ 63 ≤ a → a < 2 ^ 64 → 2 ^ 63 ≤ r → r < 2 ^ 64 → late_lane a r ≡ 2 ^ 64 - 1
+late-below a r ha la hr lr =
+    let b = bit_and a r in
+    let least : b ≤ a = and_le_l a r in
+    let first : a / 2 ^ 63 ≡ 1 = high-bit a ha la in
+    let second : r / 2 ^ 63 ≡ 1 = high-bit r hr lr in
+    let one : bit_at b 63 ≡ 1 = bit_at_and a r 63 ∙ ((λ i. min (first i % 2) (second i % 2))) in
+    let high : 2 ^ 63 ≤ b = with-bit b one in
+    let number : b ≡ of_z w64 (negsuc (2 ^ 64 - 1 - b)) = omega arith in
+    let value : to_z w64 b ≡ negsuc (2 ^ 64 - 1 - b) = ap (to_z w64) number ∙ to_z-of_z w64 (negsuc (2 ^ 64 - 1 - b)) (record { sfits = omega arith }) in
+    let none : (2 ^ 64 - 1 - b) / 2 ^ 63 ≡ 0 = div-eq_of_lt (omega arith) in
+    ap (λ (z : ℤ). of_z w64 (shr_z z (2 ^ 63))) value ∙ ap (λ (n : ℕ). of_z w64 (negsuc n)) none
   where
-    bits-less : (y : ℤ) → SFits w64 y → of_z w64 y < 2 ^ 64
-    bits-less (pos a) f = let s : a < 2 ^ 63 = f.sfits in omega arith
-    bits-less (negsuc a) f = let s : a < 2 ^ 63 = f.sfits in omega arith
+    high-bit : (a : ℕ) → 2 ^ 63 ≤ a → a < 2 ^ 64 → a / 2 ^ 63 ≡ 1
+    high-bit a h l =
+        let some : 0 < 2 ^ 63 = omega arith in
+        let rest : a % 2 ^ 63 < 2 ^ 63 = mod-lt a some in
+        omega (arith, div-add-mod a (2 ^ 63))
+
+    with-bit : (b : ℕ) → bit_at b 63 ≡ 1 → 2 ^ 63 ≤ b
+    with-bit b e = by_size b e (cases_lt b (2 ^ 63))
+      where
+        by_size : (b : ℕ) → bit_at b 63 ≡ 1 → (b < 2 ^ 63) ⊎ (2 ^ 63 ≤ b) → 2 ^ 63 ≤ b
+        by_size b e (inr h) = h
+        by_size b e (inl h) =
+            let none : b / 2 ^ 63 ≡ 0 = div-eq_of_lt h in
+            let zero : bit_at b 63 ≡ 0 = ap (λ (n : ℕ). n % 2) none in
+            absurd (omega arith)
 
 abbrev raised : ℤ → ℤ
 raised (pos a) = pos a
 raised (negsuc a) = negsuc a +ℤ pos 1
 
-broken : (y : ℤ) → unsigned_abs y < 2 ^ 63 - 1 → without_late (of_z w64 y) (2 ^ 64 - 1) ≡ raised y
-broken (pos a) h =
-    let none : a / 2 ^ 63 ≡ 0 = div-eq_of_lt (omega arith) in
-    ap (λ (b : ℕ). to_z w64 ((a + (2 ^ 64 - b)) % 2 ^ 64)) (all-ones (pos a) (omega arith) ∙ none)
+broken : (y : ℤ) (r : ℕ) → unsigned_abs y < 2 ^ 63 - 1 → 2 ^ 63 ≤ r → r < 2 ^ 64 → without_late (of_z w64 y) r ≡ raised y
+broken (pos a) r h high less =
+    ap (λ (b : ℕ). to_z w64 ((a + (2 ^ 64 - b)) % 2 ^ 64)) (late-above a r (omega arith))
     ∙ (difference-bits (pos a) (pos 0) (omega arith) ∙ omega (arith, ints))
-broken (negsuc a) h =
-    let none : a / 2 ^ 63 ≡ 0 = div-eq_of_lt (omega arith) in
-    ap (λ (b : ℕ). to_z w64 ((of_z w64 (negsuc a) + (2 ^ 64 - b)) % 2 ^ 64)) (all-ones (negsuc a) (omega arith) ∙ ap (λ (n : ℕ). of_z w64 (negsuc n)) none)
+broken (negsuc a) r h high less =
+    ap (λ (b : ℕ). to_z w64 ((of_z w64 (negsuc a) + (2 ^ 64 - b)) % 2 ^ 64)) (late-below (of_z w64 (negsuc a)) r (omega arith) (omega arith) high less)
     ∙ (difference-bits (negsuc a) (negsuc 0) (omega arith) ∙ omega (arith, ints))
 
 -- what is rounded both ways to one number is truncated to it
@@ -154,19 +178,19 @@ ceiling q z f r h less e (inl some) = (f +ℤ pos 1, between q z f r some less e
 ceiling q z f r h less e (inr none) = (f, exact q z f h (e ∙ ap (λ (n : ℕ). pos q *ℤ f +ℤ pos n) (let s : r ≡ 0 = omega arith in s)))
 
 -- the quotient where so much is over
-with-over : (q : ℕ) (w z f : ℤ) (r : ℕ) → 0 < q → r < q → z ≡ pos q *ℤ f +ℤ pos r → unsigned_abs (w +ℤ f) < 2 ^ 63 - 1 → (t : Bool) → eqb r 0 ≡ t
-    → without_late (of_z w64 (w +ℤ f)) (cond (top 63 (cond (not t) (2 ^ 64 - 1) 0)) (2 ^ 64 - 1) 0) ≡ trunc (pos q *ℤ w +ℤ z) q
-with-over q w z f r h less e size true d =
-    let none : r ≡ 0 = eqb-true r 0 d in
-    whole (w +ℤ f) (omega arith)
-    ∙ one-way q (pos q *ℤ w +ℤ z) (w +ℤ f) (rounds-more q w z f f (exact q z f h (e ∙ ap (λ (n : ℕ). pos q *ℤ f +ℤ pos n) none)))
-with-over q w z f r h less e size false d = by_size (cases_lt 0 r)
-  where
-    by_size : (0 < r) ⊎ (r ≤ 0) → without_late (of_z w64 (w +ℤ f)) (2 ^ 64 - 1) ≡ trunc (pos q *ℤ w +ℤ z) q
-    by_size (inl some) =
-        broken (w +ℤ f) size
-        ∙ two-ways q (pos q *ℤ w +ℤ z) (w +ℤ f) (w +ℤ (f +ℤ pos 1)) (omega (arith, ints)) (rounds-more q w z f (f +ℤ pos 1) (between q z f r some less e))
-    by_size (inr none) = absurd (true≢false (sym (eq-eqb r 0 (omega arith)) ∙ d))
+with-over : (q : ℕ) (w z f : ℤ) (r : ℕ) → 0 < q → r < q → q ≤ 2 ^ 20 → z ≡ pos q *ℤ f +ℤ pos r → unsigned_abs (w +ℤ f) < 2 ^ 63 - 1 → (0 < r) ⊎ (r ≤ 0)
+    → without_late (of_z w64 (w +ℤ f)) ((0 + (2 ^ 64 - r)) % 2 ^ 64) ≡ trunc (pos q *ℤ w +ℤ z) q
+with-over q w z f r h less most e size (inr none) =
+    let zero : r ≡ 0 = omega arith in
+    let nothing : (0 + (2 ^ 64 - r)) % 2 ^ 64 ≡ 0 = ap (λ (n : ℕ). (0 + (2 ^ 64 - n)) % 2 ^ 64) zero in
+    ap (without_late (of_z w64 (w +ℤ f))) nothing
+    ∙ (whole (w +ℤ f) (omega arith)
+    ∙ one-way q (pos q *ℤ w +ℤ z) (w +ℤ f) (rounds-more q w z f f (exact q z f h (e ∙ ap (λ (n : ℕ). pos q *ℤ f +ℤ pos n) zero))))
+with-over q w z f r h less most e size (inl some) =
+    let owed : (0 + (2 ^ 64 - r)) % 2 ^ 64 ≡ 2 ^ 64 - r = mod-eq_of_lt (omega arith) ∙ omega arith in
+    ap (without_late (of_z w64 (w +ℤ f))) owed
+    ∙ (broken (w +ℤ f) (2 ^ 64 - r) size (omega arith) (omega arith)
+    ∙ two-ways q (pos q *ℤ w +ℤ z) (w +ℤ f) (w +ℤ (f +ℤ pos 1)) (omega (arith, ints)) (rounds-more q w z f (f +ℤ pos 1) (between q z f r some less e)))
 
 pub part_lane-is : (k : ℕ) (w z : ℤ) → k ≤ 20 → unsigned_abs w ≤ 2 ^ 61 → unsigned_abs z ≤ 2 ^ 62 → part_lane (2 ^ k - 1) k w z ≡ trunc (pos (2 ^ k) *ℤ w +ℤ z) (2 ^ k)
 part_lane-is k w z h sw sz =
@@ -177,11 +201,12 @@ part_lane-is k w z h sw sz =
     let fits : SFits w64 z = number-fits z (omega arith) in
     let less : r < q = mod-lt (of_z w64 z) some in
     let low = low-bits k z h fits in
+    let most : q ≤ 2 ^ 20 = pow_mono h in
     let rounded = ceiling q z f r some less low (cases_lt 0 r) in
     let small : unsigned_abs f ≤ unsigned_abs z = small-floor q z f rounded.0 some rounded.1 in
     let size : unsigned_abs (w +ℤ f) ≤ unsigned_abs w + unsigned_abs f = omega (arith, ints) in
     let sum = (of_z w64 w + of_z w64 f) % 2 ^ 64 in
     let bits : sum ≡ of_z w64 (w +ℤ f) = sym (of_z-to_z w64 sum (mod-lt (of_z w64 w + of_z w64 f) (omega arith))) ∙ ap (of_z w64) (sum-bits w f (omega arith)) in
     let floor : floor_lane k w z ≡ of_z w64 (w +ℤ f) = ap (λ (a : ℤ). (of_z w64 w + of_z w64 (shr_z a q)) % 2 ^ 64) (to_z-of_z w64 z fits) ∙ bits in
-    (λ i. without_late (floor i) (cond (top 63 (cond (not (eqb (and_mask (of_z w64 z) k i) 0)) (2 ^ 64 - 1) 0)) (2 ^ 64 - 1) 0))
-    ∙ with-over q w z f r some less low (omega arith) (eqb r 0) refl
+    (λ i. without_late (floor i) ((0 + (2 ^ 64 - and_mask (of_z w64 z) k i)) % 2 ^ 64))
+    ∙ with-over q w z f r some less most low (omega arith) (cases_lt 0 r)

@@ -1,13 +1,13 @@
 -- The quotients in each lane.
-use Rattle.std.proofs.Common.{◌≡◌, ℕ, ◌-◌, ◌^◌, ◌<◌, List, length, map, replicate, to_z, of_z, w64}
+use Rattle.std.proofs.Common.{◌≡◌, ℕ, ◌<◌, List, length, map, replicate, to_z, of_z, w64}
 use lib.IntN.{ℤ}
-use lib.Lanes.{sel_l, top, zip2}
-use mir.Syntax.{Op2, shr, signed, wrap_add, wrap_sub, mask, ne}
+use lib.Lanes.{zip2}
+use mir.Syntax.{Op2, shr, signed, wrap_add, wrap_sub}
 use mir.Syntax.{bit_and as and_bits}
 use borrow.Rule.Simd.Lanes.{act2}
 use borrow.Table.Row.{s_int}
 use Rattle.wdf_vector.specs.Lanes.{lane}
-use Rattle.wdf_vector.proofs.LaneLemmas.{bits, both, chosen, numbers, splat}
+use Rattle.wdf_vector.proofs.LaneLemmas.{bits, both, numbers, splat}
 use Rattle.wdf_vector.proofs.PartLemmas.{part_lane}
 
 -- an operation in a lane, and in each
@@ -20,14 +20,14 @@ by_lanes o xs ys = zip2 (by o) xs ys
 abbrev floors_of : (n k : ℕ) → List ℤ → List ℤ → List ℕ
 floors_of n k ws zs = by_lanes wrap_add (map (of_z w64) ws) (by_lanes (shr signed) (map (of_z w64) zs) (replicate n k))
 
-abbrev rests_of : (n m : ℕ) → List ℤ → List ℕ
-rests_of n m zs = sel_l (map (top 63) (by_lanes (mask ne) (by_lanes and_bits (map (of_z w64) zs) (replicate n m)) (replicate n 0))) (replicate n (2 ^ 64 - 1)) (replicate n 0)
+abbrev owed_of : (n m : ℕ) → List ℤ → List ℕ
+owed_of n m zs = by_lanes wrap_sub (replicate n 0) (by_lanes and_bits (map (of_z w64) zs) (replicate n m))
 
 abbrev pub parts_of : (n m k : ℕ) → List ℤ → List ℤ → List ℤ
-parts_of n m k ws zs = map (to_z w64) (by_lanes wrap_sub (floors_of n k ws zs) (by_lanes (shr signed) (by_lanes and_bits (floors_of n k ws zs) (rests_of n m zs)) (replicate n 63)))
+parts_of n m k ws zs = map (to_z w64) (by_lanes wrap_sub (floors_of n k ws zs) (by_lanes (shr signed) (by_lanes and_bits (floors_of n k ws zs) (owed_of n m zs)) (replicate n 63)))
 
 pub parts_of-lane : (n m k : ℕ) (ws zs : List ℤ) (i : ℕ) → length ws ≡ n → length zs ≡ n → i < n → lane (parts_of n m k ws zs) i ≡ part_lane m k (lane ws i) (lane zs i)
 parts_of-lane n m k ws zs i hw hz less =
     let floors = both n (by wrap_add) (bits n ws hw) (both n (by (shr signed)) (bits n zs hz) (splat n k)) in
-    let rests = chosen n (2 ^ 64 - 1) 0 (both n (by (mask ne)) (both n (by and_bits) (bits n zs hz) (splat n m)) (splat n 0)) in
-    numbers n (both n (by wrap_sub) floors (both n (by (shr signed)) (both n (by and_bits) floors rests) (splat n 63))) i less
+    let owed = both n (by wrap_sub) (splat n 0) (both n (by and_bits) (bits n zs hz) (splat n m)) in
+    numbers n (both n (by wrap_sub) floors (both n (by (shr signed)) (both n (by and_bits) floors owed) (splat n 63))) i less

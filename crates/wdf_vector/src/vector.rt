@@ -53,6 +53,7 @@ pub fn parts<const K: u32, const N: usize>(wholes: [i64; N], x: [i64; N]) -> [i6
 {
     let numbers = Simd::<i64, N>::from_array(x);
     let floors = Simd::<i64, N>::from_array(wholes) + (numbers >> Simd::splat(i64::from(K)));
-    let rests = (numbers & Simd::splat(bits_below::<K>())).simd_ne(Simd::splat(0));
-    (floors - ((floors & rests.to_simd()) >> Simd::splat(63))).to_array()
+    // Below zero exactly where something is over the floor: so both are where one more is due.
+    let owed = Simd::splat(0) - (numbers & Simd::splat(bits_below::<K>()));
+    (floors - ((floors & owed) >> Simd::splat(63))).to_array()
 }
