@@ -153,8 +153,8 @@ impl Cell {
         }
     }
 
-    // A series junction on the way down. What the tree below is sent is made of few steps, since all
-    // else waits for it.
+    // A series junction on the way down. What the tree below is sent is made first and of few steps, since
+    // all else waits for it.
     #[inline(always)]
     fn fall_series<const K: u32>(&mut self, share: Share, wave: i64) -> i64
         requires some { 1 ≤ K }
@@ -166,8 +166,8 @@ impl Cell {
     {
         let whole = minus(wave, plus(self.up, self.below));
         let first = weighed::<K>(share.m, whole);
-        self.down = series_first_part::<K>(first, self.up);
         self.onward = series_second_part::<K>(first, whole, self.below);
+        self.down = series_first_part::<K>(first, self.up);
         self.onward
     }
 
@@ -181,8 +181,8 @@ impl Cell {
         ensures wave { result ≡ self.new.onward }
     {
         let sum = Rounded::by_power::<K>(self.raw);
-        self.down = raised(sum, minus(wave, self.up));
         self.onward = raised(sum, minus(wave, self.below));
+        self.down = raised(sum, minus(wave, self.up));
         self.onward
     }
 
@@ -216,8 +216,8 @@ impl Cell {
         self.below = wave;
         let sum = plus(weighed::<K>(share.m, self.up), weighed::<K>(share.n, wave));
         let voltage = Rounded::by_power::<K>(times(2, sum));
-        self.down = root_part(voltage, self.up);
         self.onward = root_part(voltage, wave);
+        self.down = root_part(voltage, self.up);
         self.onward
     }
 }

@@ -128,9 +128,9 @@ impl<const N: usize> LaneCells<N> {
         ensures { InLanes (Falls (2 ^ K) share) waves.entry self.old self.new result }
     {
         let whole = differences(waves, sums(self.up, self.below));
-        self.down = series_parts::<K, N>(share.m, whole, self.up);
         let onward = series_parts::<K, N>(share.n, whole, self.below);
         self.onward = onward;
+        self.down = series_parts::<K, N>(share.m, whole, self.up);
         onward
     }
 
@@ -142,9 +142,9 @@ impl<const N: usize> LaneCells<N> {
         requires parallel { share.parallel ≡ true }
         ensures { InLanes (Falls (2 ^ K) share) waves.entry self.old self.new result }
     {
-        self.down = parallel_parts::<K, N>(self.raw, waves, self.up);
         let onward = parallel_parts::<K, N>(self.raw, waves, self.below);
         self.onward = onward;
+        self.down = parallel_parts::<K, N>(self.raw, waves, self.up);
         onward
     }
 
@@ -173,8 +173,8 @@ impl<const N: usize> LaneCells<N> {
     {
         self.raise::<K>(share, waves);
         let half = raws::<K, N>(share, self.up, waves);
-        self.down = root_parts::<K, N>(half, self.up);
         self.onward = root_parts::<K, N>(half, waves);
+        self.down = root_parts::<K, N>(half, self.up);
         self.onward
     }
 }
