@@ -19,7 +19,7 @@ use crate::watch::{part_of, watch};
 // The same, however many chains, sources and parts there are. Where the caller has their numbers as constants of the
 // code, the loops over them disappear.
 #[inline(always)]
-fn frames<const K: u32, const C: usize, R: StageRow<K, C>>(
+fn frames<const K: u32, const C: usize, const ALONE: bool, R: StageRow<K, C>>(
     shares: &[Share],
     chains: &[Chain],
     feeds: &[Feed],
@@ -55,7 +55,7 @@ fn frames<const K: u32, const C: usize, R: StageRow<K, C>>(
     let other = part_of(watched, parts.saturating_sub(1));
     for f in 0..count {
         let at = f * sources;
-        step::<K, C, R>(
+        step::<K, C, ALONE, R>(
             shares,
             chains,
             top,
@@ -100,7 +100,7 @@ pub(crate) fn block<const K: u32, const C: usize, R: StageRow<K, C>>(
     ensures { HaveRun C (2 ^ K) root shares.now chains.now feeds.now watched.now count count (map R.cells cells.old) values.now (map R.cells cells.new) waves.new }
 {
     if chains.len() == 1 && feeds.len() == 1 && watched.len() == 2 {
-        frames::<K, C, R>(
+        frames::<K, C, true, R>(
             shares,
             &chains[..1],
             &feeds[..1],
@@ -112,7 +112,7 @@ pub(crate) fn block<const K: u32, const C: usize, R: StageRow<K, C>>(
             waves,
         );
     } else {
-        frames::<K, C, R>(
+        frames::<K, C, false, R>(
             shares, chains, feeds, watched, cells, root, count, values, waves,
         );
     }

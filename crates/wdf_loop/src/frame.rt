@@ -14,8 +14,10 @@ use crate::stage_row::StageRow;
 
 /// A frame from the states in the cells and what their parts are fed: the cells come to have its
 /// values. The root is the last stage.
-#[inline(always)]
-pub(crate) fn frame<const K: u32, const C: usize, R: StageRow<K, C>>(
+///
+/// `ALONE` changes nothing in it. It makes two functions of one, each of which is called at one place:
+/// so the compiler puts it there, however large it is.
+pub(crate) fn frame<const K: u32, const C: usize, const ALONE: bool, R: StageRow<K, C>>(
     shares: &[Share],
     chains: &[Chain],
     top: Chain,

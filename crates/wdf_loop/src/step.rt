@@ -18,7 +18,7 @@ use crate::stage_row::StageRow;
 /// A frame of each run from the sources' values, a row for each source, source 0 first: the cells
 /// come to show the values that follow from those that they showed. The root is the last stage.
 #[inline(always)]
-pub(crate) fn step<const K: u32, const C: usize, R: StageRow<K, C>>(
+pub(crate) fn step<const K: u32, const C: usize, const ALONE: bool, R: StageRow<K, C>>(
     shares: &[Share],
     chains: &[Chain],
     top: Chain,
@@ -45,5 +45,5 @@ pub(crate) fn step<const K: u32, const C: usize, R: StageRow<K, C>>(
     ensures { HaveStepped C (2 ^ K) root shares.now chains.now feeds.now (map R.cells cells.old) values.now (map R.cells cells.new) }
 {
     feed::<C, R>(feeds, cells, values);
-    frame::<K, C, R>(shares, chains, top, pairs, cells, root);
+    frame::<K, C, ALONE, R>(shares, chains, top, pairs, cells, root);
 }
