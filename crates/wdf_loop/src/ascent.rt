@@ -95,9 +95,8 @@ fn ascend_by<const K: u32, const C: usize, R: StageRow<K, C>>(
 }
 
 /// Up all chains, each but the last, which is `top` and has these pairs, to the part beside the
-/// stage where it hangs: `waves` become what the trees below the root reflect.
-#[inline(always)]
-pub(crate) fn rise<const K: u32, const C: usize, R: StageRow<K, C>>(
+/// stage where it hangs: `waves` become what the trees below the root reflect. `ALONE` is the frame's.
+pub(crate) fn rise<const K: u32, const C: usize, const ALONE: bool, R: StageRow<K, C>>(
     shares: &[Share],
     chains: &[Chain],
     top: Chain,

@@ -39,7 +39,7 @@ pub(crate) fn frame<const K: u32, const C: usize, const ALONE: bool, R: StageRow
     ensures { AreDone C (2 ^ K) root shares.now chains.now (map R.cells cells.old) (map R.cells cells.new) }
 {
     let mut waves = [0; C];
-    rise::<K, C, R>(shares, chains, top, pairs, cells, root, &mut waves);
+    rise::<K, C, ALONE, R>(shares, chains, top, pairs, cells, root, &mut waves);
     cells[root].turn(shares[root], &mut waves);
     fall::<K, C, R>(shares, chains, top, pairs, cells, root, &mut waves);
 }
